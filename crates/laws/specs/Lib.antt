@@ -1,0 +1,7 @@
+-- The theorems about the meaning, each listed in docs/PROMISES.md.
+pub mod Tests
+pub mod First
+pub mod Replaced
+pub mod Effect
+pub mod Section
+pub mod Bits

@@ -1,0 +1,76 @@
+-- Lists of checks: what every one of them says, and the answer of the first that fails.
+use Prim.Native.Nat.{ℕ, zero, suc, _<_, suc-le-suc}
+use native.Mathlib.Nat.{zero-lt-suc, ne-of-gt}
+use mathlib.Core.Bool.{Bool, true, false, cond, false≢true}
+use mathlib.Core.List.{List, [], _∷_, _++_}
+use mathlib.Core.Path.{_≡_, refl, ap}
+use lib.ListN.{getD}
+use Rattle.meaning.specs.Checks.{Answer, answer, Check, check, first}
+
+-- ---- lists of checks
+
+-- P of every check of a list
+abbrev pub Every : (Check → Type 0) → List Check → Type 0
+Every P [] = Unit {0}
+Every P (k ∷ ks) = P k × Every P ks
+
+abbrev pub Passes : Check → Type 0
+Passes k = k .fails ≡ false
+
+abbrev pub Numbered : Check → Type 0
+Numbered k = zero < k .number
+
+-- the check at a place of the list; past its end, one that passes
+abbrev pub nth : List Check → ℕ → Check
+nth ks k = getD ks k (check 0 0 false)
+
+module _ (P : Check → Type 0) where
+  pub every-append : (ks ls : List Check) → Every P ks → Every P ls → Every P (ks ++ ls)
+  every-append [] ls p q = q
+  every-append (k ∷ ks) ls p q = (p .0, every-append ks ls (p .1) q)
+
+  pub every-left : (ks ls : List Check) → Every P (ks ++ ls) → Every P ks
+  every-left [] ls p = tt
+  every-left (k ∷ ks) ls p = (p .0, every-left ks ls (p .1))
+
+  pub every-right : (ks ls : List Check) → Every P (ks ++ ls) → Every P ls
+  every-right [] ls p = p
+  every-right (k ∷ ks) ls p = every-right ks ls (p .1)
+
+  pub every-nth : P (check 0 0 false) → (ks : List Check) → Every P ks → (k : ℕ) → P (nth ks k)
+  every-nth z [] p k = z
+  every-nth z (x ∷ ks) p zero = p .0
+  every-nth z (x ∷ ks) p (suc k) = every-nth z ks (p .1) k
+
+  pub nth-every : (ks : List Check) → ((k : ℕ) → P (nth ks k)) → Every P ks
+  nth-every [] p = tt
+  nth-every (x ∷ ks) p = (p zero, nth-every ks (λ k. p (suc k)))
+
+-- ---- the first that fails
+
+pub first-append : (ks ls : List Check) (a : Answer) → first (ks ++ ls) a ≡ first ks (first ls a)
+unfolding first
+first-append [] ls a = refl
+first-append (k ∷ ks) ls a = ap (cond (k .fails) (answer (k .number) (k .place))) (first-append ks ls a)
+
+pub first-passed : (ks : List Check) (a : Answer) → Every Passes ks → first ks a ≡ a
+unfolding first
+first-passed [] a p = refl
+first-passed (k ∷ ks) a p = rw (p .0) (first-passed ks a (p .1))
+
+pub first-at : (ks : List Check) (a : Answer) (n : ℕ) → nth ks n .fails ≡ true → ((m : ℕ) → m < n → nth ks m .fails ≡ false) →
+    first ks a ≡ answer (nth ks n .number) (nth ks n .place)
+unfolding first
+first-at [] a n p q = absurd (false≢true p)
+first-at (k ∷ ks) a zero p q = rw p
+first-at (k ∷ ks) a (suc n) p q = rw (q zero (zero-lt-suc n)) (first-at ks a n p (λ m h. q (suc m) (suc-le-suc h)))
+
+-- A list whose checks have a number each answers 0 only where they all pass.
+pub zero-passes : (ks : List Check) (a : Answer) → Every Numbered ks → first ks a .number ≡ 0 → Every Passes ks
+unfolding first
+zero-passes [] a n e = tt
+zero-passes (k ∷ ks) a n e = go (k .fails) refl (zero-passes ks a (n .1))
+  where
+    go : (b : Bool) → k .fails ≡ b → (first ks a .number ≡ 0 → Every Passes ks) → Every Passes (k ∷ ks)
+    go true f rest = absurd (ne-of-gt (n .0) (rw f at e))
+    go false f rest = (f, rest (rw f at e))

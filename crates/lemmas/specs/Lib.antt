@@ -1,0 +1,6 @@
+pub mod First
+pub mod Pieces
+pub mod Look
+pub mod Bytes
+pub mod Splice
+pub mod Modulo

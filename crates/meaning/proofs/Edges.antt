@@ -1,0 +1,109 @@
+-- The edges that document 01 marks P, together as one table, and one computed test of it.
+use Prim.Native.Nat.{ℕ, _+_, _-_, _*_, _^_}
+use mathlib.Core.Bool.{Bool, true, false, _&&_}
+use mathlib.Core.List.{List, [], _∷_, _++_}
+use lib.Dec.{T, eqb}
+use lib.ListN.{length, replicate}
+use Rattle.meaning.specs.Numbers.{number, bytesOf, cut}
+use Rattle.meaning.specs.Table.{table, look}
+use Rattle.meaning.specs.Field.{put}
+use Rattle.meaning.specs.Checks.{first, ofRecords, ofMasks, checks}
+use Rattle.meaning.specs.Patch.{setting, answerOf, sectionOf, patched}
+
+-- the bytes of a record, and of a value row with S present alone
+pub rela : ℕ → ℕ → ℕ → ℕ → List ℕ
+rela offset type symbol addend = bytesOf 8 offset ++ bytesOf 8 (type + symbol * 2 ^ 32) ++ bytesOf 8 addend
+
+pub rowS : ℕ → List ℕ
+rowS s = bytesOf 8 1 ++ bytesOf 8 s ++ replicate 40 0
+
+-- type 23 of symbol 0 pushes the addend
+pub push : ℕ → List ℕ
+push addend = rela 0 23 0 addend
+
+-- an addend below 0
+pub minus : ℕ → ℕ
+minus n = 2 ^ 64 - n
+
+-- an edge: a call, and its number, place and section
+pub record Edge : Type 0 where
+  pub section : List ℕ
+  pub records : List ℕ
+  pub values : List ℕ
+  pub address : ℕ
+  pub number : ℕ
+  pub place : ℕ
+  pub left : List ℕ
+
+-- a call at address 0 on a section that holds the word 0, with S or not
+pub on : List ℕ → List ℕ → ℕ → ℕ → List ℕ → Edge
+on records values number place left =
+    record { section = bytesOf 4 0; records = records; values = values; address = 0; number = number; place = place; left = left }
+
+pub same : List ℕ → List ℕ → Bool
+same [] [] = true
+same [] (y ∷ ys) = false
+same (x ∷ xs) [] = false
+same (x ∷ xs) (y ∷ ys) = eqb x y && same xs ys
+
+pub holds : Edge → Bool
+holds e =
+    let c = setting (e .section) (e .values) (e .address) 0 in
+    eqb (answerOf c (e .records) .number) (e .number) && eqb (answerOf c (e .records) .place) (e .place) && same (sectionOf c (e .records) (e .section)) (e .left)
+
+pub allHold : List Edge → Bool
+allHold [] = true
+allHold (e ∷ es) = holds e && allHold es
+
+pub edges : List Edge
+edges =
+    -- the frame case as a patch: address 1000h, one word 50000000h, S = 1010h, type 66 at 0
+    record {
+      section = 0 ∷ 0 ∷ 0 ∷ 0x50 ∷ [];
+      records = rela 0 66 1 0;
+      values = rowS 0x1010;
+      address = 0x1000;
+      number = 0;
+      place = 1;
+      left = 0 ∷ 0x10 ∷ 0 ∷ 0x50 ∷ [];
+    } ∷
+    -- empty list, place 0, section unchanged
+    record { section = 1 ∷ 2 ∷ 3 ∷ []; records = []; values = []; address = 7; number = 0; place = 0; left = 1 ∷ 2 ∷ 3 ∷ [] } ∷
+    -- type 64 with 131,068 gives field 7fffh; 131,072 is 14; 131,070 is 15
+    on (rela 0 64 0 131068) [] 0 1 (bytesOf 4 (0x7fff * 2 ^ 10)) ∷
+    on (rela 0 64 0 131072) [] 14 0 (bytesOf 4 0) ∷
+    on (rela 0 64 0 131070) [] 15 0 (bytesOf 4 0) ∷
+    -- type 44, value -4, word 0 gives 03fffc1fh
+    on (push (minus 4) ++ rela 0 44 0 0) [] 0 2 (bytesOf 4 0x03fffc1f) ∷
+    -- type 38: 16 is 14
+    on (push 16 ++ rela 0 38 0 0) [] 14 1 (bytesOf 4 0) ∷
+    -- type 49 on ff ff ff with S+A = 1 gives 00 00 00, the next byte kept
+    record {
+      section = 0xff ∷ 0xff ∷ 0xff ∷ 0xab ∷ [];
+      records = rela 0 49 0 1;
+      values = [];
+      address = 0;
+      number = 0;
+      place = 1;
+      left = 0 ∷ 0 ∷ 0 ∷ 0xab ∷ [];
+    } ∷
+    -- -5 shifted right by 1 is -3, whose five low bits are 1dh; a count of 64 is 12
+    on (push (minus 5) ++ push 1 ++ rela 0 34 0 0 ++ rela 0 38 0 0) [] 0 4 (bytesOf 4 (0x1d * 2 ^ 10)) ∷
+    on (push (minus 5) ++ push 64 ++ rela 0 34 0 0 ++ rela 0 38 0 0) [] 12 2 (bytesOf 4 0) ∷
+    -- pushes 0, 7, 9 then 37 leave 9
+    on (push 0 ++ push 7 ++ push 9 ++ rela 0 37 0 0 ++ rela 0 38 0 0) [] 0 5 (bytesOf 4 (9 * 2 ^ 10)) ∷
+    -- type 71, S+A = 12345678h, PC = 12340004h, word 0 gives a0h
+    record {
+      section = bytesOf 8 0;
+      records = rela 4 71 1 0x78;
+      values = rowS 0x12345600;
+      address = 0x12340000;
+      number = 0;
+      place = 1;
+      left = bytesOf 4 0 ++ bytesOf 4 0xa0;
+    } ∷
+    []
+
+pub edges-hold : T (allHold edges)
+unfolding allHold holds edges on same rela rowS push minus number bytesOf cut table look put first ofRecords ofMasks checks patched
+edges-hold = tt
