@@ -46,8 +46,8 @@ bit-mod b m x h =
 
 -- After a word type, a bit of the word that is in no part of its field is the old one.
 pub other-bits-stay : (c : Setting) (r : Record) (source : Source) (parts : List Part) (range : Accepted) (st : Stack) (s : List ℕ) (b : ℕ) →
-  r .offset + 4 ≤ length s → b < 32 → InNoPart parts b →
-  bitAt b (wordAt (r .offset) (effect c r (word source parts range) st s)) ≡ bitAt b (wordAt (r .offset) s)
+    r .offset + 4 ≤ length s → b < 32 → InNoPart parts b →
+    bitAt b (wordAt (r .offset) (effect c r (word source parts range) st s)) ≡ bitAt b (wordAt (r .offset) s)
 other-bits-stay c r source parts range st s b fits low none =
     let x : ℕ = bitsOf (c .width) (wordValue c r st source) in
     let new : ℕ = put parts x (wordAt (r .offset) s) in

@@ -33,22 +33,36 @@ records-numbered c i st (r ∷ rs) =
 
 pub checks-numbered : (c : Setting) (records : List ℕ) → Every Numbered (checks c records)
 unfolding checks
-checks-numbered c records =
-    (omega arith, (omega arith, (omega arith, (omega arith, (omega arith,
-    every-append Numbered (ofMasks 0 (rowsOf c)) (ofRecords c 0 [] (recordsOf records))
-    (masks-numbered 0 (rowsOf c)) (records-numbered c 0 [] (recordsOf records)))))))
+checks-numbered c records = (
+  omega arith,
+  (
+    omega arith,
+    (
+      omega arith,
+      (
+        omega arith,
+        (
+          omega arith,
+          every-append Numbered (ofMasks 0 (rowsOf c)) (ofRecords c 0 [] (recordsOf records))
+              (masks-numbered 0 (rowsOf c)) (records-numbered c 0 [] (recordsOf records)),
+        ),
+      ),
+    ),
+  ),
+)
 
 -- ---- the theorems
 
 -- Accepted exactly when no check fails.
 pub accepted-exactly : (c : Setting) (records : List ℕ) →
-  (answerOf c records .number ≡ 0) ↔ ((n : ℕ) → nth (checks c records) n .fails ≡ false)
-accepted-exactly c records =
-    ((λ e. every-nth Passes refl (checks c records) (zero-passes (checks c records) _ (checks-numbered c records) e)),
-    (λ p. ap (λ (a : Answer). a .number) (first-passed (checks c records) _ (nth-every Passes (checks c records) p))))
+    (answerOf c records .number ≡ 0) ↔ ((n : ℕ) → nth (checks c records) n .fails ≡ false)
+accepted-exactly c records = (
+  (λ e. every-nth Passes refl (checks c records) (zero-passes (checks c records) _ (checks-numbered c records) e)),
+  (λ p. ap (λ (a : Answer). a .number) (first-passed (checks c records) _ (nth-every Passes (checks c records) p))),
+)
 
 -- A call that some check refuses answers with the number and the place of the first that fails.
 pub refused-by-the-first : (c : Setting) (records : List ℕ) (n : ℕ) → nth (checks c records) n .fails ≡ true →
-  ((m : ℕ) → m < n → nth (checks c records) m .fails ≡ false) →
-  answerOf c records ≡ answer (nth (checks c records) n .number) (nth (checks c records) n .place)
+    ((m : ℕ) → m < n → nth (checks c records) m .fails ≡ false) →
+    answerOf c records ≡ answer (nth (checks c records) n .number) (nth (checks c records) n .place)
 refused-by-the-first c records n p q = first-at (checks c records) _ n p q

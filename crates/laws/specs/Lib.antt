@@ -4,4 +4,9 @@ pub mod First
 pub mod Replaced
 pub mod Effect
 pub mod Section
+pub mod Pull
 pub mod Bits
+pub mod Commute
+pub mod Order
+pub mod FieldBack
+pub mod ReadBack

@@ -34,17 +34,17 @@ passes-all c records e = zero-passes (checks c records) _ (checks-numbered c rec
 
 -- An accepted call answers 0 and the number of records, and leaves what they leave, one after the other.
 pub accepted-answers : (c : Setting) (records : List ℕ) → answerOf c records .number ≡ 0 →
-  answerOf c records ≡ answer 0 (length records / 24)
+    answerOf c records ≡ answer 0 (length records / 24)
 accepted-answers c records e =
     first-passed (checks c records) _ (passes-all c records e) ∙ ap (answer 0) (length-records records)
 
 pub accepted-leaves : (c : Setting) (records s : List ℕ) → answerOf c records .number ≡ 0 →
-  sectionOf c records s ≡ patched c [] s (recordsOf records)
+    sectionOf c records s ≡ patched c [] s (recordsOf records)
 accepted-leaves c records s e = rw (eq-eqb (answerOf c records .number) 0 e)
 
 -- The checks of the records pass where the call is accepted.
 pub records-pass : (c : Setting) (records : List ℕ) → answerOf c records .number ≡ 0 →
-  Every Passes (ofRecords c 0 [] (recordsOf records))
+    Every Passes (ofRecords c 0 [] (recordsOf records))
 unfolding checks
 records-pass c records e =
     every-right Passes (ofMasks 0 (rowsOf c)) (ofRecords c 0 [] (recordsOf records)) (passes-all c records e .1 .1 .1 .1 .1)
@@ -52,7 +52,7 @@ records-pass c records e =
 -- ---- no byte of the section decides
 
 pub no-byte-decides : (s t records values : List ℕ) (address gp : ℕ) → length s ≡ length t →
-  answerOf (setting s values address gp) records ≡ answerOf (setting t values address gp) records
+    answerOf (setting s values address gp) records ≡ answerOf (setting t values address gp) records
 no-byte-decides s t records values address gp e =
     ap (λ (n : ℕ). answerOf (record { width = 64; size = n; values = values; address = address; gp = gp }) records) e
 
@@ -91,14 +91,14 @@ patched-keeps c i st s (r ∷ rs) e p =
 
 -- Of an accepted call.
 pub accepted-keeps : (c : Setting) (records s : List ℕ) → c .size ≡ length s → answerOf c records .number ≡ 0 →
-  KeptAll (recordsOf records) s (sectionOf c records s)
+    KeptAll (recordsOf records) s (sectionOf c records s)
 accepted-keeps c records s size e =
     subst⁻¹ (λ (x : List ℕ). KeptAll (recordsOf records) s x) (accepted-leaves c records s e)
     (patched-keeps c 0 [] s (recordsOf records) size (records-pass c records e))
 
 -- Whatever the call, the section keeps its length, a byte that no record writes is the old one, and bytes stay bytes.
 pub section-keeps : (c : Setting) (records s : List ℕ) → c .size ≡ length s →
-  KeptAll (recordsOf records) s (sectionOf c records s)
+    KeptAll (recordsOf records) s (sectionOf c records s)
 section-keeps c records s size = go (eqb (answerOf c records .number) 0) refl
   where
     go : (b : Bool) → eqb (answerOf c records .number) 0 ≡ b → KeptAll (recordsOf records) s (sectionOf c records s)

@@ -3,7 +3,7 @@ use Prim.Native.Nat.{ℕ, zero, suc, _<_, suc-le-suc}
 use native.Mathlib.Nat.{zero-lt-suc, ne-of-gt}
 use mathlib.Core.Bool.{Bool, true, false, cond, false≢true}
 use mathlib.Core.List.{List, [], _∷_, _++_}
-use mathlib.Core.Path.{_≡_, refl, ap}
+use mathlib.Core.Path.{_≡_, refl, sym, ap, _∙_}
 use lib.ListN.{getD}
 use Rattle.meaning.specs.Checks.{Answer, answer, Check, check, first}
 
@@ -74,3 +74,13 @@ zero-passes (k ∷ ks) a n e = go (k .fails) refl (zero-passes ks a (n .1))
     go : (b : Bool) → k .fails ≡ b → (first ks a .number ≡ 0 → Every Passes ks) → Every Passes (k ∷ ks)
     go true f rest = absurd (ne-of-gt (n .0) (rw f at e))
     go false f rest = (f, rest (rw f at e))
+
+-- A list that answers with a refusal answers so whatever comes after it.
+pub first-stops : (ks : List Check) (a rest : Answer) (n p : ℕ) → a .number ≡ 0 → (n ≡ 0 → ⊥) → answer n p ≡ first ks a → first ks rest ≡ answer n p
+unfolding first
+first-stops [] a rest n p z h e = absurd (h (ap (λ (x : Answer). x .number) e ∙ z))
+first-stops (k ∷ ks) a rest n p z h e = go (k .fails) refl (first-stops ks a rest n p z h)
+  where
+    go : (b : Bool) → k .fails ≡ b → (answer n p ≡ first ks a → first ks rest ≡ answer n p) → first (k ∷ ks) rest ≡ answer n p
+    go true f q = rw f (sym (rw f at e))
+    go false f q = rw f (q (rw f at e))

@@ -1,0 +1,137 @@
+// Patch: the whole list is judged, in the order of the checks, before the first byte is written.
+use stack::Stack;
+use steps::Setting;
+ghost use mathlib.Core.Path.{_≡_};
+ghost use mathlib.Core.Bool.{true};
+ghost use mathlib.Core.List.{[]};
+ghost use Prim.Native.Nat.{_≤_, _/_};
+ghost use lib.ListN.{length};
+ghost use Rattle.meaning.specs.Numbers.{pieces};
+ghost use Rattle.meaning.specs.Call.{recordsOf};
+ghost use Rattle.meaning.specs.Checks as C;
+ghost use Rattle.meaning.specs.Patch as P;
+ghost use Rattle.table.specs.Columns.{lines};
+ghost use Rattle.steps.specs.Step.{given};
+ghost use Rattle.patch.specs.Answers.{Answers, limitChecks, passed};
+
+// A record is 24 bytes, a value row 56.
+const RECORD: usize = 24;
+
+const ROW: usize = 56;
+
+// Patched, with the number of records, or a number of refusal and its place.
+pub enum Answer {
+    Patched(u32),
+    Refused(u32, u32),
+}
+
+// Refusals 1 and 2: the limits and the whole pieces of the three buffers, given by their lengths.
+fn limits(section: usize, records: usize, values: usize) -> Answer
+    ensures { λ r. ⌜ Answers r (C.first (limitChecks section records values) (C.answer 0 0)) ⌝ }
+{
+    if section > 65536 {
+        return Answer::Refused(1, 0);
+    }
+    if records > 49152 {
+        return Answer::Refused(1, 1);
+    }
+    if values > 57344 {
+        return Answer::Refused(1, 2);
+    }
+    if records % RECORD != 0 {
+        return Answer::Refused(2, 1);
+    }
+    if values % ROW != 0 {
+        return Answer::Refused(2, 2);
+    }
+    Answer::Patched(0)
+}
+
+// Refusal 3: the first row whose mask is above 63.
+fn masks(values: &[u8]) -> Answer
+    requires { ⌜ length (now values) ≤ 57344 ⌝ }
+    ensures { λ r. ⌜ Answers r (C.first (C.ofMasks 0 (pieces 56 (now (values .entry)))) (C.answer 0 0)) ⌝ }
+{
+    let rows = values.len() / ROW;
+    let mut i = 0;
+    while i < rows {
+        let at = ROW * i;
+        if bytes_le::get_u64(values, at) > 63 {
+            return Answer::Refused(3, i as u32);
+        }
+        i += 1;
+    }
+    Answer::Patched(0)
+}
+
+// One pass over the records, each with the stack that the earlier ones left: it judges them, and where it is to write, writes each. It
+// writes only what has been judged before.
+fn pass(
+    rows: &[[u8; 16]; 101],
+    section: &mut [u8],
+    records: &[u8],
+    values: &[u8],
+    setting: Setting,
+    writing: bool,
+) -> Answer
+    requires { ⌜ now rows ≡ lines ⌝ }
+    requires { ⌜ (setting .size ≡ length (now section)) × (length (now records) ≤ 49152) ⌝ }
+    requires { ⌜ (writing ≡ true → C.first (C.ofRecords (given (setting .size) (now values) (setting .address) (setting .gp)) 0 [] (recordsOf (now records)))
+        (C.answer 0 (length (recordsOf (now records)))) .number ≡ 0) ⌝ }
+    ensures { λ r. ⌜ Answers r (C.first (C.ofRecords (given (setting .size) (now (values .entry)) (setting .address) (setting .gp)) 0 []
+        (recordsOf (now (records .entry)))) (C.answer 0 (length (recordsOf (now (records .entry)))))) ⌝ }
+    ensures { λ _. ⌜ now (section .exit) ≡ passed writing (given (setting .size) (now (values .entry)) (setting .address) (setting .gp)) []
+        (now (section .entry)) (recordsOf (now (records .entry))) ⌝ }
+{
+    let count = records.len() / RECORD;
+    let mut entries = [0i64; Stack::DEPTH];
+    let mut stack = Stack::empty();
+    let mut i = 0;
+    while i < count {
+        let at = RECORD * i;
+        let end = at + RECORD;
+        let rela = steps::read_record(&records[at..end]);
+        let row = table::row_of(rows, rela.kind);
+        let done = steps::step(row, rela, values, setting, &mut entries, stack);
+        if done.refusal != 0 {
+            return Answer::Refused(done.refusal, i as u32);
+        }
+        if writing {
+            writers::write(section, row, rela.kind, rela.offset, done.value);
+        }
+        let after = done.stack;
+        stack = after;
+        i += 1;
+    }
+    if stack.height != 0 {
+        return Answer::Refused(16, count as u32);
+    }
+    Answer::Patched(count as u32)
+}
+
+// Any lengths, any bytes and any numbers get an answer. A refused list leaves the section exactly as it came.
+pub fn patch(section: &mut [u8], records: &[u8], values: &[u8], address: u64, gp: u64) -> Answer
+    ensures { λ r. ⌜ Answers r (P.answerOf (P.setting (now (section .entry)) (now (values .entry)) address gp) (now (records .entry))) ⌝ }
+    ensures { λ _. ⌜ now (section .exit) ≡ P.sectionOf (P.setting (now (section .entry)) (now (values .entry)) address gp) (now (records .entry))
+        (now (section .entry)) ⌝ }
+{
+    let limited = limits(section.len(), records.len(), values.len());
+    if let Answer::Refused(number, place) = limited {
+        return Answer::Refused(number, place);
+    }
+    let masked = masks(values);
+    if let Answer::Refused(number, place) = masked {
+        return Answer::Refused(number, place);
+    }
+    let rows = table::rows();
+    let setting = Setting {
+        size: section.len() as u64,
+        address,
+        gp,
+    };
+    let judged = pass(&rows, section, records, values, setting, false);
+    if let Answer::Refused(number, place) = judged {
+        return Answer::Refused(number, place);
+    }
+    pass(&rows, section, records, values, setting, true)
+}

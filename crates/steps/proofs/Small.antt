@@ -1,0 +1,190 @@
+-- Laws of the small tests, over plain numbers.
+use Prim.Native.Nat.{ℕ, zero, suc, _+_, _-_, _*_, _/_, _%_, _^_, _≤_, _<_}
+use native.Mathlib.Nat.{not-suc-le-zero, not-le-of-lt}
+use native.Mathlib.Omega.{arith}
+use mathlib.Core.Bool.{Bool, true, false, cond, not, _&&_, false≢true}
+use mathlib.Core.List.{List}
+use mathlib.Core.Path.{_≡_, refl, sym, ap, _∙_, subst, subst⁻¹}
+use borrow.Author.Tests.{lt-ltb, ltb-true, ltb-false, eq-eqb, ne-eqb}
+use lib.Dec.{T, ltb, leb, leb→le, eqb·suc-zero}
+use lib.IntN.{ℤ}
+use lib.Signed.{mag}
+use mir.Syntax.{w64}
+use mir.Val.{toZ, ofZ}
+use mir.ValLaws.{toZ-ofZ}
+use Rattle.meaning.specs.Numbers.{pieces}
+use Rattle.meaning.specs.Table.{Sum, only, with-A, with-GP, Formula, whole, _-PC, pages, far, Semantics, semantics}
+use Rattle.meaning.specs.Call as M
+use Rattle.meaning.specs.Call.{u64, recordOf}
+use Rattle.meaning.specs.Checks.{outside, unaligned}
+use Rattle.table.specs.declared.Row.{Row}
+use Rattle.table.specs.Columns.{columns, rangeOf, formulaOf, sumNumber, formulaNumber}
+use Rattle.meaning.proofs.Sound.{sound}
+use Rattle.table.specs.Look.{both, sound-at, fits-at}
+use Rattle.table.specs.Laws.{class-bytes}
+use Rattle.table.specs.Words.{beyondSigned, beyondUnsigned, no4, range-any, range-signed, range-unsigned, range-multiple, bits-checked}
+use Rattle.values.specs.declared.Found.{Found}
+use Rattle.values.specs.Found.{refusing, thenValue, foundAt, sumBy, formulaBy}
+use Rattle.steps.specs.Refusal.{rangeRefusal}
+use Rattle.steps.specs.Step.{asRecord, given, found, At}
+
+-- a record out of its three words
+pub record-is : (b : List ℕ) (offset info addend : ℕ) → offset ≡ u64 b 0 → info ≡ u64 b 8 → addend ≡ u64 b 16 →
+    asRecord (record { offset = offset; kind = info % 4294967296; symbol = info / 4294967296; addend = addend }) ≡ recordOf b
+record-is b offset info addend p q r =
+    λ i. record { offset = p i; type = q i % 4294967296; symbol = q i / 4294967296; addend = r i }
+
+-- two tests that say the same
+same-test : (a b c d : ℕ) → (a < b → c < d) → (c < d → a < b) → ltb a b ≡ ltb c d
+same-test a b c d f g = go (ltb a b) (ltb c d) refl refl
+  where
+    go : (t u : Bool) → ltb a b ≡ t → ltb c d ≡ u → t ≡ u
+    go true true e h = refl
+    go false false e h = refl
+    go true false e h = absurd (not-le-of-lt (f (ltb-true a b e)) (ltb-false c d h))
+    go false true e h = absurd (not-le-of-lt (g (ltb-true c d h)) (ltb-false a b e))
+
+-- refusal 8, with no sum
+pub outside-short : (size offset n : ℕ) → 1 ≤ n → size < n → true ≡ outside size offset n
+outside-short size offset zero h k = absurd (not-suc-le-zero h)
+outside-short size offset (suc n) h k =
+    let p : size < offset + suc n = omega arith in
+    simp (eqb·suc-zero, lt-ltb size (offset + suc n) p)
+
+pub outside-long : (size offset n : ℕ) → 1 ≤ n → n ≤ size → ltb (size - n) offset ≡ outside size offset n
+outside-long size offset zero h k = absurd (not-suc-le-zero h)
+outside-long size offset (suc n) h k =
+    simp eqb·suc-zero (same-test (size - suc n) offset size (offset + suc n) (λ p. omega arith) (λ p. omega arith))
+
+-- a signed number that is passed on as its bits
+pub passed : (z y : ℤ) → mag z < 2 ^ 63 → z ≡ y → toZ w64 (ofZ w64 z) ≡ y
+passed z y f e = toZ-ofZ w64 z (record { sfits = f }) ∙ e
+
+-- a limit that was kept, and one that was not
+pub kept : (n : ℕ) (t b : Bool) → t ≡ b → t ≡ true → (rest : ℕ) → rest ≡ cond (not b) n rest
+kept n t true e h rest = refl
+kept n t false e h rest = absurd (false≢true (sym e ∙ h))
+
+pub missed : (n : ℕ) (t b : Bool) → t ≡ b → t ≡ false → (rest : ℕ) → n ≡ cond (not b) n rest
+missed n t false e h rest = refl
+missed n t true e h rest = absurd (false≢true (sym h ∙ e))
+
+-- ---- the range of a type, by its row
+
+module _ (row : Row) (t : ℕ) (is : row ≡ columns (semantics t)) where
+  pub bits-fit : 0 < row .range → (1 ≤ row .bits) × (row .bits < 63)
+  bits-fit h =
+      subst⁻¹ (λ (x : Row). (1 ≤ x .bits) × (x .bits < 63)) is
+      (bits-checked t (subst (λ (x : Row). 0 < x .range) is h))
+
+  pub value-fits : row .value < 6
+  value-fits = let f : row .value ≤ 5 = subst⁻¹ (λ (x : Row). x .value ≤ 5) is (fits-at t .value) in omega arith
+
+  pub last-range : (row .range ≡ 0 → ⊥) → (row .range ≡ 1 → ⊥) → (row .range ≡ 2 → ⊥) → row .range ≡ 3
+  last-range a b d =
+      let f : row .range ≤ 3 = subst⁻¹ (λ (x : Row). x .range ≤ 3) is (fits-at t .range) in
+      omega arith
+
+  at-range : (k : ℕ) → row .range ≡ k → columns (semantics t) .range ≡ k
+  at-range k e = ap (λ (x : Row). x .range) (sym is) ∙ e
+
+  bits-are : columns (semantics t) .bits ≡ row .bits
+  bits-are = ap (λ (x : Row). x .bits) (sym is)
+
+  pub any-refusal : row .range ≡ 0 → (z : ℤ) → _≡_ {A = ℕ} 0 (rangeRefusal (rangeOf (semantics t)) z)
+  any-refusal e z = let p = range-any t (at-range 0 e) z in rw (p .0, p .1)
+
+  pub signed-refusal : row .range ≡ 1 → (z : ℤ) (n : ℕ) → n ≡ cond (beyondSigned (row .bits) z) 14 0 →
+      n ≡ rangeRefusal (rangeOf (semantics t)) z
+  signed-refusal e z n h = let p = range-signed t (at-range 1 e) z in rw (p .0, p .1, bits-are) h
+
+  pub unsigned-refusal : row .range ≡ 2 → (z : ℤ) (n : ℕ) → n ≡ cond (beyondUnsigned (row .bits) z) 14 0 →
+      n ≡ rangeRefusal (rangeOf (semantics t)) z
+  unsigned-refusal e z n h = let p = range-unsigned t (at-range 2 e) z in rw (p .0, p .1, bits-are) h
+
+  pub multiple-refusal : row .range ≡ 3 → (z : ℤ) (n : ℕ) → n ≡ cond (beyondSigned (row .bits) z) 14 (cond (no4 z) 15 0) →
+      n ≡ rangeRefusal (rangeOf (semantics t)) z
+  multiple-refusal e z n h = let p = range-multiple t (at-range 3 e) z in rw (p .0, p .1, bits-are) h
+
+-- two tests one after the other, by the first one's number
+pub first-fails : (b : Bool) (n rest : ℕ) → n ≡ cond b 14 0 → (n ≡ 0 → ⊥) → n ≡ cond b 14 rest
+first-fails true n rest e h = e
+first-fails false n rest e h = absurd (h e)
+
+pub first-passes : (b : Bool) (n k rest : ℕ) → n ≡ cond b 14 0 → n ≡ 0 → k ≡ rest → k ≡ cond b 14 rest
+first-passes true n k rest e h q = absurd (omega arith)
+first-passes false n k rest e h q = q
+
+-- ---- the formula of a type, by its row
+
+through : (p : Bool) (n : ℕ) (f : ℕ → ℕ) (rest : Found) → thenValue f (refusing p n rest) ≡ refusing p n (thenValue f rest)
+through true n f rest = refl
+through false n f rest = refl
+
+module _ (size : ℕ) (values : List ℕ) (address gp : ℕ) (r : M.Record) where
+  sum-by : (x : Sum) → sumBy (sumNumber x) (r .addend) gp (M.valueIn (M.valueOf x) (M.row (given size values address gp) r)) ≡
+      M.sum (given size values address gp) r x
+  sum-by (only v) = refl
+  sum-by (with-A v) = refl
+  sum-by (with-GP v) = refl
+
+  formula-by : (f : Formula) (pc : ℕ) → pc ≡ M.PC (given size values address gp) r →
+      formulaBy (formulaNumber f) pc
+      (sumBy (sumNumber (M.sumOf f)) (r .addend) gp (M.valueIn (M.valueOf (M.sumOf f)) (M.row (given size values address gp) r))) ≡
+      M.formula (given size values address gp) r f
+  formula-by (whole x) pc e = sum-by x
+  formula-by (x -PC) pc e = rw (e, sum-by x)
+  formula-by (pages x) pc e = rw (e, sum-by x)
+  formula-by (far x) pc e = rw (e, sum-by x)
+
+  found-by : (f : Formula) (pc : ℕ) → pc ≡ M.PC (given size values address gp) r →
+      thenValue (λ x. formulaBy (formulaNumber f) pc (sumBy (sumNumber (M.sumOf f)) (r .addend) gp x))
+      (foundAt (pieces 56 values) (r .symbol) (M.bit (M.valueOf (M.sumOf f)))) ≡
+      found (given size values address gp) r f
+  found-by f pc e = simp (through, formula-by f pc e)
+
+  pub found-in : (d : Semantics) (row : Row) → row ≡ columns d → (pc : ℕ) → pc ≡ M.PC (given size values address gp) r →
+      thenValue (λ x. formulaBy (row .formula) pc (sumBy (row .sum) (r .addend) gp x)) (foundAt (pieces 56 values) (r .symbol) (row .value)) ≡
+      found (given size values address gp) r (formulaOf d)
+  found-in d row is pc e =
+      subst⁻¹ (λ (x : Row).
+      thenValue (λ y. formulaBy (x .formula) pc (sumBy (x .sum) (r .addend) gp y)) (foundAt (pieces 56 values) (r .symbol) (x .value)) ≡
+      found (given size values address gp) r (formulaOf d)) is (found-by (formulaOf d) pc e)
+
+-- ---- places
+
+pub at-class : {row : Row} {kind class height : ℕ} → At row kind class height → columns (semantics kind) .class ≡ class
+at-class a = ap (λ (x : Row). x .class) (sym (a .row-is)) ∙ a .class-is
+
+pub unaligned-yes : (pc q : ℕ) → pc ≡ q → (pc % 4 ≡ 0 → ⊥) → unaligned q ≡ true
+unaligned-yes pc q e h = rw (← e, ne-eqb (pc % 4) 0 h)
+
+pub unaligned-no : (pc q : ℕ) → pc ≡ q → pc % 4 ≡ 0 → unaligned q ≡ false
+unaligned-no pc q e h = rw (← e, eq-eqb (pc % 4) 0 h)
+
+-- a data type writes at least one byte
+pub count-is : {row : Row} {kind class height : ℕ} → At row kind class height → row .count ≡ columns (semantics kind) .count
+count-is a = ap (λ (x : Row). x .count) (a .row-is)
+
+pub count-some : {row : Row} {kind height : ℕ} → At row kind 7 height → 1 ≤ row .count
+unfolding sound
+count-some {row} {kind} a =
+    let n : ℕ = columns (semantics kind) .count in
+    let t : T (leb 1 n && leb n 8) = subst (λ (d : Semantics). T (sound d)) (class-bytes (semantics kind) (at-class a)) (sound-at kind) in
+    let p : 1 ≤ n = leb→le 1 n (both (leb 1 n) (leb n 8) t .0) in
+    rw (count-is a) p
+
+-- a class that is none of 1 to 7 is 0
+pub no-class : (n : ℕ) → n ≤ 7 → (n ≡ 1 → ⊥) → (n ≡ 2 → ⊥) → (n ≡ 3 → ⊥) → (n ≡ 4 → ⊥) → (n ≡ 5 → ⊥) → (n ≡ 6 → ⊥) → (n ≡ 7 → ⊥) → n ≡ 0
+no-class zero l a b c d e f g = refl
+no-class (suc zero) l a b c d e f g = absurd (a refl)
+no-class (suc (suc zero)) l a b c d e f g = absurd (b refl)
+no-class (suc (suc (suc zero))) l a b c d e f g = absurd (c refl)
+no-class (suc (suc (suc (suc zero)))) l a b c d e f g = absurd (d refl)
+no-class (suc (suc (suc (suc (suc zero))))) l a b c d e f g = absurd (e refl)
+no-class (suc (suc (suc (suc (suc (suc zero)))))) l a b c d e f g = absurd (f refl)
+no-class (suc (suc (suc (suc (suc (suc (suc zero))))))) l a b c d e f g = absurd (g refl)
+no-class (suc (suc (suc (suc (suc (suc (suc (suc n)))))))) l a b c d e f g = absurd (omega arith)
+
+pub class-fits : {row : Row} (t : ℕ) → row ≡ columns (semantics t) → row .class ≤ 7
+class-fits t is = subst⁻¹ (λ (x : Row). x .class ≤ 7) is (fits-at t .class)

@@ -1,0 +1,31 @@
+use Prim.Native.Nat.{_-_, _^_}
+use lib.IntN.{pos, negℤ}
+use mathlib.Core.Path.{_≡_, ap, _∙_}
+use Rattle.meaning.specs.Numbers.{signed}
+use Rattle.meaning.specs.Checks.{between}
+use Rattle.steps.proofs.Small.{passed, kept, missed}
+use borrow.Author.Needs.{needs}
+use Rattle.steps.proofs.beyond_signed.Statement.{statement}
+use Rattle.steps.proofs.beyond_signed.Tie as tie
+use Rattle.steps.proofs.beyond_signed.Reads as reads
+use Rattle.steps.proofs.beyond_signed.Lts as lts
+use Rattle.numbers.proofs.in_signed.Reads as in-signed-reads
+use Rattle.numbers.proofs.signed.Reads as signed-reads
+
+signed-requires : tie.Need-signed-requires
+signed-requires c κs = search needs
+
+in-signed-requires : tie.Need-in-signed-requires
+in-signed-requires c κs = search needs
+
+within : (c : tie.After-in-signed) → c .in-signed .result ≡ between (negℤ (pos (2 ^ (c .before .before .args .n - 1)))) (pos (2 ^ (c .before .before .args .n - 1) - 1)) (signed 64 (c .before .before .args .x))
+within c = c .in-signed .ensures ∙ ap (between (negℤ (pos (2 ^ (c .before .before .args .n - 1)))) (pos (2 ^ (c .before .before .args .n - 1) - 1))) (passed (c .before .signed .result) _ (c .before .signed .ok) (c .before .signed .ensures))
+
+returns : tie.Need-returns
+returns c = kept 14 (c .before .in-signed .result) (between (negℤ (pos (2 ^ (c .before .before .before .args .n - 1)))) (pos (2 ^ (c .before .before .before .args .n - 1) - 1)) (signed 64 (c .before .before .before .args .x))) (within (c .before)) (c .if1 .taken) 0
+
+returns-2 : tie.Need-returns-2
+returns-2 c = missed 14 (c .before .in-signed .result) (between (negℤ (pos (2 ^ (c .before .before .before .args .n - 1)))) (pos (2 ^ (c .before .before .before .args .n - 1) - 1)) (signed 64 (c .before .before .before .args .x))) (within (c .before)) (c .if1 .left) 0
+
+pub beyond-signed-spec : {M : Type 1} → statement M
+beyond-signed-spec = tie.close (tie.spec signed-requires in-signed-requires returns returns-2)
