@@ -1,16 +1,17 @@
 -- A turn of the loop that reads bytes and of the one that stores them, over plain numbers and lists.
 -- Assumes nothing.
 use mathlib.Core.Path.{_≡_, _∙_, refl, sym, ap}
-use mathlib.Core.List.{List, _++_}
+use mathlib.Core.List.{List, [], _++_, append-nil, append-assoc}
 use Prim.Native.Nat.{ℕ, zero, suc, _+_, _-_, _*_, _/_, _%_, _^_, _≤_, _<_}
 use native.Mathlib.Nat.{lt-of-lt-of-le, sub-zero, sub-self}
 use native.Mathlib.Numerals.{add-one}
 use native.Mathlib.Omega.{arith}
-use lib.ListN.{length, take, drop, getD, set, length-drop}
-use lib.Seq.{take-all}
+use lib.ListN.{length, take, drop, getD, set, length-drop, drop-of-length-le}
+use lib.Seq.{take-all, take-at, drop-at, drop-drop}
+use borrow.Rule.Slice.PartMut.{putMid}
 use lib.Pow.{pow-mono, shr-shr}
 use Rattle.meaning.specs.Numbers.{number, bytesOf}
-use Rattle.bytes_le.specs.Laws.{number-more, summed, number-summed, number-take-lt, number-part-lt, bytesOf-store}
+use Rattle.lemmas.specs.Bytes.{number-more, summed, number-summed, number-take-lt, number-part-lt, length-bytesOf, bytesOf-store}
 use Rattle.bytes_le.specs.Little.{Little}
 
 -- what a part that runs to the end of a slice holds
@@ -63,3 +64,27 @@ pub store-all : (n i x : ℕ) (s part : List ℕ) → i ≤ n → n ≤ i → pa
 store-all n i x s part h l e =
     let last : i ≡ n = omega arith in
     rw last at e
+
+-- four bytes and the next four are eight
+bytes-eight : (x : ℕ) → bytesOf 8 x ≡ bytesOf 4 x ++ bytesOf 4 (x / 4294967296)
+unfolding bytesOf
+bytes-eight x =
+    let a : x / 256 / 256 / 256 / 256 ≡ x / 4294967296 = omega arith in
+    rw a
+
+pub halves-stored : (s p q : List ℕ) (x : ℕ) → p ≡ bytesOf 4 x ++ drop 4 s →
+  q ≡ bytesOf 4 (x / 4294967296) ++ drop 4 (take (length p - 4) (drop 4 p)) → putMid 4 (length p - 4) p q ≡ bytesOf 8 x ++ drop 8 s
+halves-stored s p q x e f =
+    let front : take 4 p ≡ bytesOf 4 x = ap (take 4) e ∙ take-at (bytesOf 4 x) (drop 4 s) 4 (length-bytesOf 4 x) in
+    let back : drop 4 p ≡ drop 4 s = ap (drop 4) e ∙ drop-at (bytesOf 4 x) (drop 4 s) 4 (length-bytesOf 4 x) in
+    let size : length (drop 4 p) ≤ length p - 4 = simp length-drop (omega arith) in
+    let whole : take (length p - 4) (drop 4 p) ≡ drop 4 p = take-all (length p - 4) (drop 4 p) size in
+    let none : drop (length p - 4) (drop 4 p) ≡ [] = drop-of-length-le (drop 4 p) size in
+    let q-is : q ≡ bytesOf 4 (x / 4294967296) ++ drop 8 s =
+          f ∙ ap (λ (y : List ℕ). bytesOf 4 (x / 4294967296) ++ drop 4 y) (whole ∙ back) ∙ ap (λ (y : List ℕ). bytesOf 4 (x / 4294967296) ++ y) (drop-drop 4 4 s) in
+    ap (λ (y : List ℕ). take 4 p ++ (q ++ y)) none
+    ∙ ap (λ (y : List ℕ). take 4 p ++ y) (append-nil q)
+    ∙ ap (λ (y : List ℕ). y ++ q) front
+    ∙ ap (λ (y : List ℕ). bytesOf 4 x ++ y) q-is
+    ∙ sym (append-assoc (bytesOf 4 x) (bytesOf 4 (x / 4294967296)) (drop 8 s))
+    ∙ ap (λ (y : List ℕ). y ++ drop 8 s) (sym (bytes-eight x))

@@ -94,21 +94,8 @@ fn put_eight(part: &mut [u8], x: u64)
     requires { ⌜ 8 ≤ length (now part) ⌝ }
     ensures { λ _. ⌜ now (part .exit) ≡ bytesOf 8 x ++ drop 8 (now (part .entry)) ⌝ }
 {
-    let x1 = x / 256;
-    let x2 = x1 / 256;
-    let x3 = x2 / 256;
-    let x4 = x3 / 256;
-    let x5 = x4 / 256;
-    let x6 = x5 / 256;
-    let x7 = x6 / 256;
-    part[0] = (x % 256) as u8;
-    part[1] = (x1 % 256) as u8;
-    part[2] = (x2 % 256) as u8;
-    part[3] = (x3 % 256) as u8;
-    part[4] = (x4 % 256) as u8;
-    part[5] = (x5 % 256) as u8;
-    part[6] = (x6 % 256) as u8;
-    part[7] = (x7 % 256) as u8;
+    put_four(part, x);
+    put_four(&mut part[4..], x / 4294967296);
 }
 
 fn put_each(part: &mut [u8], n: usize, x: u64)

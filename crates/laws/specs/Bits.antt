@@ -14,8 +14,8 @@ use Rattle.meaning.specs.Call.{Setting, Record}
 use Rattle.meaning.specs.Stack.{Stack}
 use Rattle.meaning.specs.Checks.{wordValue}
 use Rattle.meaning.specs.Patch.{effect}
-use Rattle.bytes_le.specs.Laws.{length-bytesOf, number-bytesOf}
-use Rattle.fields.specs.Laws.{splice-outside}
+use Rattle.lemmas.specs.Bytes.{length-bytesOf, number-bytesOf}
+use Rattle.lemmas.specs.Splice.{splice-outside}
 use Rattle.laws.specs.Replaced.{laid-inside}
 
 -- bit b of a number, and the word at a place

@@ -16,7 +16,7 @@ use Rattle.meaning.specs.Field.{put}
 use Rattle.meaning.specs.Checks.{writes, outside, wordValue, ofRecord}
 use Rattle.meaning.specs.Patch.{replaced, combined, effect, patched}
 use Rattle.meaning.specs.Order.{common, commonWith, commonByte, mayChange}
-use Rattle.bytes_le.specs.Laws.{length-bytesOf}
+use Rattle.lemmas.specs.Bytes.{length-bytesOf}
 use Rattle.laws.specs.First.{Every, Passes}
 use Rattle.laws.specs.Replaced.{laid-length}
 use Rattle.laws.specs.Effect.{inside-section, effect-keeps}

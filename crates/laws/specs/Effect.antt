@@ -15,7 +15,7 @@ use Rattle.meaning.specs.Stack.{Stack}
 use Rattle.meaning.specs.Checks.{writes, outside, wordValue}
 use Rattle.meaning.specs.Field.{put}
 use Rattle.meaning.specs.Patch.{replaced, combined, effect}
-use Rattle.bytes_le.specs.Laws.{length-bytesOf, bytesOf-bytes}
+use Rattle.lemmas.specs.Bytes.{length-bytesOf, bytesOf-bytes}
 use Rattle.laws.specs.Replaced.{Bytes, laid-length, laid-outside, laid-bytes}
 
 -- The section s became s′ by a write of n bytes at a place.

@@ -10,3 +10,4 @@ pub mod Commute
 pub mod Order
 pub mod FieldBack
 pub mod ReadBack
+pub mod Unique

@@ -9,7 +9,7 @@ use lib.ListN.{length, take, drop, getD, length-append, length-take, length-drop
 use lib.Seq.{length-take-le, getD-take, getD-drop, getD-append-add, take-at, drop-at}
 use Rattle.meaning.specs.Numbers.{bytesOf, number}
 use Rattle.meaning.specs.Patch.{replaced}
-use Rattle.bytes_le.specs.Laws.{length-bytesOf, bytesOf-bytes}
+use Rattle.lemmas.specs.Bytes.{length-bytesOf, bytesOf-bytes}
 
 -- each element is a byte
 abbrev pub Bytes : List ℕ → Type 0

@@ -4,3 +4,4 @@ pub mod Look
 pub mod Bytes
 pub mod Splice
 pub mod Modulo
+pub mod Operations

@@ -1,14 +1,24 @@
-// The C face: numbers and byte buffers in, a number and a place out. include/rofteluvi.h declares it for a C program.
+// The C face: numbers and byte buffers in, a number, a place and a value out. include/rofteluvi.h declares it for a C program.
+use back::Immediate;
 use patch::Answer;
 ghost use mathlib.Core.Path.{_≡_};
 ghost use Rattle.meaning.specs.Patch as P;
-ghost use Rattle.rofteluvi.specs.Face.{answerIn};
+ghost use Rattle.meaning.specs.ReadBack as B;
+ghost use Rattle.rofteluvi.specs.Face.{answerIn, immediateIn};
 
 // rofteluvi_answer of the header.
 #[repr(C)]
 pub struct RofteluviAnswer {
     pub number: u32,
     pub place: u32,
+}
+
+// rofteluvi_immediate of the header.
+#[repr(C)]
+pub struct RofteluviImmediate {
+    pub number: u32,
+    pub place: u32,
+    pub value: i64,
 }
 
 #[no_mangle]
@@ -30,5 +40,25 @@ pub extern "C" fn rofteluvi_patch(
             place: count,
         },
         Answer::Refused(number, place) => RofteluviAnswer { number, place },
+    }
+}
+
+// Its place is always 0, and on refusal the value is 0.
+#[no_mangle]
+pub extern "C" fn rofteluvi_read_back(section: &[u8], address: u64, offset: u64, kind: u32) -> RofteluviImmediate
+    ensures { λ r. ⌜ immediateIn r ≡ B.readBackOf 64 (now (section .entry)) address offset kind ⌝ }
+{
+    let immediate = back::read_back(section, address, offset, kind as u64);
+    match immediate {
+        Immediate::Value(value) => RofteluviImmediate {
+            number: 0,
+            place: 0,
+            value,
+        },
+        Immediate::Refused(number) => RofteluviImmediate {
+            number,
+            place: 0,
+            value: 0,
+        },
     }
 }

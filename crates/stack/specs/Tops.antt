@@ -6,7 +6,8 @@ use mathlib.Core.List.{List, [], _∷_, _++_}
 use lib.Dec.{ltb}
 use lib.IntN.{ℤ, pos}
 use lib.ListN.{length, getD, set, drop}
-use Rattle.meaning.specs.Table.{Operation, dup, assert, not, sub, sl, sr, add, and, if-else}
+use Rattle.meaning.specs.Table.{Operation}
+pub use Rattle.lemmas.specs.Operations.{operationOf}
 use Rattle.meaning.specs.Stack.{depth, entry, takes, pushes}
 use Rattle.meaning.specs.Checks.{refuses}
 use Rattle.stack.specs.declared.Taken.{Taken}
@@ -34,10 +35,6 @@ pushedAt h = ifRoom (ltb h depth) h
 
 abbrev pub entriesAt : List ℤ → ℕ → ℤ → List ℤ
 entriesAt s h z = cond (ltb h depth) (set s h z) s
-
--- the operations by number; from 8 on, if-else
-abbrev pub operationOf : ℕ → Operation
-operationOf n = getD (dup ∷ assert ∷ not ∷ sub ∷ sl ∷ sr ∷ add ∷ and ∷ []) n if-else
 
 -- the stack after an operation, and its refusal, 0 for none
 unfoldable pub operationStack : Operation → List ℤ → List ℤ

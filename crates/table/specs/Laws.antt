@@ -7,6 +7,7 @@ use Rattle.meaning.specs.Table.{Value, S, G, PLT, T, IE, GD, Sum, only, with-A,
 use Rattle.meaning.specs.Table.{Operation, dup, assert, not, sub, sl, sr, add, and, if-else, stack, of, Way, store-in, add-to, subtract-from}
 use Rattle.meaning.specs.Table.{Semantics, unnamed, idle, loaders, push, operation, word, bytes}
 use Rattle.meaning.specs.Call.{bit, valueOf, sumOf}
+use Rattle.lemmas.specs.Operations.{operationOf}
 use Rattle.table.specs.Columns.{formulaOf, sumNumber, formulaNumber, operationNumber, wayNumber, partsOf, rangeOf, columns}
 
 -- ---- numbers back as what they stand for
@@ -20,11 +21,12 @@ sumFrom n v = getD (only v ∷ with-A v ∷ with-GP v ∷ []) n (only v)
 abbrev pub formulaFrom : ℕ → Sum → Formula
 formulaFrom n x = getD (whole x ∷ (x -PC) ∷ pages x ∷ far x ∷ []) n (whole x)
 
-abbrev pub operationFrom : ℕ → Operation
-operationFrom n = getD (dup ∷ assert ∷ not ∷ sub ∷ sl ∷ sr ∷ add ∷ and ∷ []) n if-else
-
 abbrev pub wayFrom : ℕ → Way
 wayFrom n = getD (store-in ∷ add-to ∷ subtract-from ∷ []) n store-in
+
+-- alias
+abbrev pub operationFrom : ℕ → Operation
+operationFrom n = operationOf n
 
 pub value-back : (v : Value) → valueFrom (bit v) ≡ v
 value-back S = refl
@@ -45,7 +47,7 @@ formula-back (x -PC) = refl
 formula-back (pages x) = refl
 formula-back (far x) = refl
 
-pub operation-back : (o : Operation) → operationFrom (operationNumber o) ≡ o
+pub operation-back : (o : Operation) → operationOf (operationNumber o) ≡ o
 operation-back dup = refl
 operation-back assert = refl
 operation-back not = refl
@@ -71,7 +73,7 @@ shape d n =
     idle ∷
     loaders ∷
     push (formulaOf d) ∷
-    operation (operationFrom (columns d .operation)) ∷
+    operation (operationOf (columns d .operation)) ∷
     word stack (partsOf d) (rangeOf d) ∷
     word (of (formulaOf d)) (partsOf d) (rangeOf d) ∷
     bytes (wayFrom (columns d .way)) (columns d .count) (formulaOf d) ∷
@@ -103,7 +105,7 @@ module _ (d : Semantics) where
   pub class-push : columns d .class ≡ 3 → d ≡ push (formulaOf d)
   class-push h = shaped d ∙ ap (shape d) h
 
-  pub class-operation : columns d .class ≡ 4 → d ≡ operation (operationFrom (columns d .operation))
+  pub class-operation : columns d .class ≡ 4 → d ≡ operation (operationOf (columns d .operation))
   class-operation h = shaped d ∙ ap (shape d) h
 
   pub class-stack-word : columns d .class ≡ 5 → d ≡ word stack (partsOf d) (rangeOf d)

@@ -10,28 +10,8 @@ use lib.Dec.{T, eqb, ltb, leb, ltb→lt, leb→le, lit≤}
 use lib.ListN.{length, getD}
 use Rattle.meaning.specs.Table.{Semantics, unnamed, Row, type, table, look, semantics}
 use Rattle.meaning.specs.Field.{wide, lowest}
-use Rattle.meaning.proofs.Sound.{sound, allSound, table-sound}
+pub use Rattle.lemmas.specs.Look.{both, every, found, sound-at}
 use Rattle.table.specs.Columns.{columns, partsOf, lineOf, linesFrom, lines}
-
-pub both : (a b : Bool) → T (a && b) → T a × T b
-both true b h = (tt, h)
-both false b h = absurd h
-
--- A test of a row's number and of what it does, at each row.
-every : (ℕ → Semantics → Bool) → List Row → Bool
-every test [] = true
-every test (type n does ∷ rows) = test n does && every test rows
-
--- A type has what each row of its number has, and what `unnamed` has.
-found : (P : Semantics → Type 0) (test : ℕ → Semantics → Bool) (rows : List Row) (t : ℕ) → T (every test rows) →
-    ((does : Semantics) → T (test t does) → P does) → P unnamed → P (look rows t)
-unfolding look every
-found P test [] t h p z = z
-found P test (type n does ∷ rows) t h p z = go (eqb n t) refl (found P test rows t (both (test n does) (every test rows) h .1) p z)
-  where
-    go : (b : Bool) → eqb n t ≡ b → P (look rows t) → P (cond b does (look rows t))
-    go true e q = p does (subst (λ (m : ℕ). T (test m does)) (eqb-true n t e) (both (test n does) (every test rows) h .0))
-    go false e q = q
 
 -- ---- past the table's end
 
@@ -44,17 +24,6 @@ past-end t h = found (λ d. d ≡ unnamed) (λ n does. ltb n 101) table t number
   where
     never : t < 101 → ⊥
     never b = omega arith
-
--- ---- each type's description is sound
-
-same : (rows : List Row) → allSound rows ≡ every (λ n does. sound does) rows
-unfolding allSound every
-same [] = refl
-same (type n does ∷ rows) = ap (λ (b : Bool). sound does && b) (same rows)
-
-pub sound-at : (t : ℕ) → T (sound (semantics t))
-unfolding sound
-sound-at t = found (λ d. T (sound d)) (λ n does. sound does) table t (subst T (same table) table-sound) (λ does h. h) tt
 
 -- ---- what the numbers of a row are at most
 

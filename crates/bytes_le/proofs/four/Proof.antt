@@ -5,7 +5,7 @@ use mathlib.Core.Path.{_≡_}
 use native.Mathlib.Omega.{arith}
 use lib.ListN.{take}
 use Rattle.meaning.specs.Numbers.{number}
-use Rattle.bytes_le.specs.Laws.{summed, number-summed}
+use Rattle.lemmas.specs.Bytes.{summed, number-summed}
 use Rattle.bytes_le.proofs.four.Statement.{statement}
 use Rattle.bytes_le.proofs.four.Tie as tie
 

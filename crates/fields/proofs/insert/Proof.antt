@@ -4,7 +4,7 @@ use Prim.Native.Nat.{ℕ, _^_, _<_}
 use native.Mathlib.Omega.{arith}
 use borrow.Author.Needs.{needs}
 use Rattle.meaning.specs.Field.{splice}
-use Rattle.fields.specs.Laws.{splice-lt}
+use Rattle.lemmas.specs.Splice.{splice-lt}
 use Rattle.fields.proofs.Masks.{inserted}
 use Rattle.fields.proofs.insert.Statement.{statement}
 use Rattle.fields.proofs.insert.Tie as tie

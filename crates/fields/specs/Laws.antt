@@ -1,1 +1,0 @@
-pub use Rattle.lemmas.specs.Splice.{splice-inside, splice-apart, splice-outside, splice-lt}

@@ -1,0 +1,117 @@
+/* rofteluvi: patches LoongArch ELF64 relocation records (psABI 2.01, Table 10) into a section.
+
+   Two functions, numbers and byte buffers only. No state, no memory of its own, no system call: calls are independent of each
+   other and may run on any thread at the same time, as long as no two of them share a buffer that one of them writes.
+
+   What the caller answers for, since no code can test it:
+     - each buffer is as long as its length says;
+     - the section given to rofteluvi_patch, which is written, overlaps neither the records nor the values.
+   Nothing else is asked: every other input, however damaged, gets an answer. An empty buffer may have a null pointer. Buffers
+   need no alignment. All numbers in the buffers are little-endian. */
+#ifndef ROFTELUVI_H
+#define ROFTELUVI_H
+
+#include <stddef.h>
+#include <stdint.h>
+
+#ifdef __cplusplus
+extern "C" {
+#endif
+
+/* Limits. A call above one of them is refused with ROFTELUVI_TOO_LONG. */
+#define ROFTELUVI_SECTION_BYTES_MAX 65536 /* bytes of a section */
+#define ROFTELUVI_RECORDS_MAX 2048        /* records in a call */
+#define ROFTELUVI_ROWS_MAX 1024           /* value rows in a call */
+#define ROFTELUVI_RECORD_BYTES 24         /* bytes of one record */
+#define ROFTELUVI_ROW_BYTES 56            /* bytes of one value row */
+#define ROFTELUVI_RECORD_BYTES_MAX 49152  /* bytes of all records: 2,048 times 24 */
+#define ROFTELUVI_VALUE_BYTES_MAX 57344   /* bytes of all value rows: 1,024 times 56 */
+#define ROFTELUVI_STACK_DEPTH 16          /* entries that the stack of types 22 to 46 holds */
+
+/* A record is an ELF64 Rela: offset (8 bytes), info (8), addend A (8, signed). The type is the low half of info, the symbol
+   index the high half.
+
+   A value row is seven 8-byte numbers: a mask, then S, G, PLT, T, IE and GD. The mask says which of the six are present. A
+   present one may be 0; the number of an absent one is not looked at. Symbol k, from 1 up, has row k-1. Symbol 0 has no row: its
+   S is present and 0, and it has nothing else. */
+#define ROFTELUVI_HAS_S 1
+#define ROFTELUVI_HAS_G 2
+#define ROFTELUVI_HAS_PLT 4
+#define ROFTELUVI_HAS_T 8
+#define ROFTELUVI_HAS_IE 16
+#define ROFTELUVI_HAS_GD 32
+
+/* The number of an answer: 0, or why the call was refused. They stand in the order of checking, and the first that applies is
+   the answer: 1 to 3 over the whole call, then 4 to 15 for record 0, for record 1 and so on, then 16.
+
+   "Record" below: place is the number of the record at fault, from 0. PC is the section's address plus the record's offset,
+   modulo 2^64. (17, a bad line of input, is given by the program `patcher` alone and never by these functions.) */
+enum {
+    /* Done. Place: the number of records. The section is patched. */
+    ROFTELUVI_ACCEPTED = 0,
+    /* A buffer is longer than its limit. Place: which, 0 section, 1 records, 2 values. */
+    ROFTELUVI_TOO_LONG = 1,
+    /* A buffer is no whole number of records or rows. Place: which, 1 records, 2 values. */
+    ROFTELUVI_NOT_WHOLE = 2,
+    /* A value row's mask is above 63. Place: the first such row, from 0. */
+    ROFTELUVI_BAD_MASK = 3,
+    /* The type is none that the table names: 13 to 19, 59 to 63, 101 and above. Place: record. */
+    ROFTELUVI_UNKNOWN_TYPE = 4,
+    /* Types 3 to 12 are the run-time loader's work. Place: record. */
+    ROFTELUVI_LOADER_TYPE = 5,
+    /* The type uses a value, and the symbol index is past the rows. Place: record. */
+    ROFTELUVI_NO_SUCH_SYMBOL = 6,
+    /* The value that the type uses is absent in the symbol's row. Place: record. */
+    ROFTELUVI_VALUE_ABSENT = 7,
+    /* The bytes to be written are not all inside the section. Place: record. */
+    ROFTELUVI_OUTSIDE = 8,
+    /* The type patches an instruction word (38 to 46, 64 to 98) and PC is no multiple of 4. Place: record. */
+    ROFTELUVI_UNALIGNED = 9,
+    /* Too few entries on the stack for what the type takes. Place: record. */
+    ROFTELUVI_STACK_EMPTY = 10,
+    /* A push on a full stack: a seventeenth entry. Place: record. */
+    ROFTELUVI_STACK_FULL = 11,
+    /* Types 33 and 34: a shift count that is not 0 to 63. Place: record. */
+    ROFTELUVI_SHIFT_COUNT = 12,
+    /* Type 30: the entry taken is zero. Place: record. */
+    ROFTELUVI_ASSERTION = 13,
+    /* The value does not fit the field's range. Place: record. */
+    ROFTELUVI_OUT_OF_RANGE = 14,
+    /* The value fits the range, but must be a multiple of 4 and is none. Place: record. */
+    ROFTELUVI_NOT_MULTIPLE = 15,
+    /* Entries are left on the stack after the last record. Place: the number of records. */
+    ROFTELUVI_STACK_LEFT = 16
+};
+
+typedef struct {
+    uint32_t number; /* 0, or the number of the refusal */
+    uint32_t place;  /* what it means is said at each number above */
+} rofteluvi_answer;
+
+typedef struct {
+    uint32_t number; /* 0, or the number of the refusal */
+    uint32_t place;  /* always 0 */
+    int64_t value;   /* the immediate; 0 when refused */
+} rofteluvi_immediate;
+
+/* Applies the records, in their order, to a section that is to stand at `address`. `gp` is the address that G, IE and GD count
+   from. Accepted: every record is applied, each to the section as the earlier ones left it, and no other bit of the section is
+   changed. Refused: the section is as it came. Records and values are only read. */
+rofteluvi_answer rofteluvi_patch(uint8_t *section, size_t section_len,
+                                 const uint8_t *records, size_t records_len,
+                                 const uint8_t *values, size_t values_len,
+                                 uint64_t address, uint64_t gp);
+
+/* Reads the immediate of a type out of the instruction word at `offset`. Serves types 38 to 46 and 64 to 98. Types 38 to 46 and
+   64 to 66 give the value as rofteluvi_patch took it: signed (39 and 46 unsigned), with the low zeros that the field leaves out.
+   Types 67 to 98 give the bare field.
+   Refusals, in this order: ROFTELUVI_TOO_LONG (the section), ROFTELUVI_UNKNOWN_TYPE (any type not served), ROFTELUVI_OUTSIDE and
+   ROFTELUVI_UNALIGNED. */
+rofteluvi_immediate rofteluvi_read_back(const uint8_t *section, size_t section_len,
+                                        uint64_t address, uint64_t offset, uint32_t type);
+
+#ifdef __cplusplus
+}
+#endif
+
+#endif

@@ -1,0 +1,52 @@
+/* The same two operations as rofteluvi.h, written a second time from the customer's paper and the psABI's Table 10, to be
+   compared with the archive. Made to be read, not to be fast. */
+#ifndef REFERENCE_H
+#define REFERENCE_H
+
+#include "rofteluvi.h"
+
+/* All that a call of patch is given. */
+struct call {
+    uint8_t *section;
+    size_t section_len;
+    const uint8_t *records;
+    size_t records_len;
+    const uint8_t *values;
+    size_t values_len;
+    uint64_t address;
+    uint64_t gp;
+};
+
+struct record {
+    uint64_t offset;
+    uint32_t type;
+    uint32_t symbol;
+    uint64_t addend;
+};
+
+struct stack {
+    int64_t entry[ROFTELUVI_STACK_DEPTH];
+    unsigned depth;
+};
+
+/* Patches. */
+rofteluvi_answer reference_patch(const struct call *call);
+
+/* Reads an immediate back. */
+rofteluvi_immediate reference_read_back(const uint8_t *section, size_t section_len, uint64_t address, uint64_t offset,
+                                        uint32_t type);
+
+/* Checks one record, given the stack before it: 0, or the number of its refusal, 4 to 15. If it is 0, the stack becomes the one
+   after it, and *value the number that the record puts into the section, where it puts one. No section byte is looked at. */
+uint32_t reference_judge(const struct call *call, const struct record *r, struct stack *stack, int64_t *value);
+
+/* The record at an index, taken apart. */
+struct record reference_record(const uint8_t *records, size_t index);
+
+/* How many bytes of the section a type writes: 0, 1, 2, 3, 4 or 8. */
+unsigned reference_width(uint32_t type);
+
+/* Whether the type is one whose immediate has an accepted range: 38 to 46 and 64 to 66. */
+int reference_checked(uint32_t type);
+
+#endif
