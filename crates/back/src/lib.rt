@@ -1,6 +1,5 @@
 // Read back: the immediate that a word holds, its low zeros restored and its sign as the type's accepted range has it.
 use table::Row;
-
 ghost use mathlib.Core.Path.{_≡_};
 ghost use mathlib.Core.Bool.{not, true};
 ghost use Prim.Native.Nat.{_^_, _≤_, _<_};

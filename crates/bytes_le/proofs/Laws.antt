@@ -73,7 +73,7 @@ bytes-eight x =
     rw a
 
 pub halves-stored : (s p q : List ℕ) (x : ℕ) → p ≡ bytesOf 4 x ++ drop 4 s →
-  q ≡ bytesOf 4 (x / 4294967296) ++ drop 4 (take (length p - 4) (drop 4 p)) → putMid 4 (length p - 4) p q ≡ bytesOf 8 x ++ drop 8 s
+    q ≡ bytesOf 4 (x / 4294967296) ++ drop 4 (take (length p - 4) (drop 4 p)) → putMid 4 (length p - 4) p q ≡ bytesOf 8 x ++ drop 8 s
 halves-stored s p q x e f =
     let front : take 4 p ≡ bytesOf 4 x = ap (take 4) e ∙ take-at (bytesOf 4 x) (drop 4 s) 4 (length-bytesOf 4 x) in
     let back : drop 4 p ≡ drop 4 s = ap (drop 4) e ∙ drop-at (bytesOf 4 x) (drop 4 s) 4 (length-bytesOf 4 x) in
@@ -81,7 +81,7 @@ halves-stored s p q x e f =
     let whole : take (length p - 4) (drop 4 p) ≡ drop 4 p = take-all (length p - 4) (drop 4 p) size in
     let none : drop (length p - 4) (drop 4 p) ≡ [] = drop-of-length-le (drop 4 p) size in
     let q-is : q ≡ bytesOf 4 (x / 4294967296) ++ drop 8 s =
-          f ∙ ap (λ (y : List ℕ). bytesOf 4 (x / 4294967296) ++ drop 4 y) (whole ∙ back) ∙ ap (λ (y : List ℕ). bytesOf 4 (x / 4294967296) ++ y) (drop-drop 4 4 s) in
+    f ∙ ap (λ (y : List ℕ). bytesOf 4 (x / 4294967296) ++ drop 4 y) (whole ∙ back) ∙ ap (λ (y : List ℕ). bytesOf 4 (x / 4294967296) ++ y) (drop-drop 4 4 s) in
     ap (λ (y : List ℕ). take 4 p ++ (q ++ y)) none
     ∙ ap (λ (y : List ℕ). take 4 p ++ y) (append-nil q)
     ∙ ap (λ (y : List ℕ). y ++ q) front

@@ -8,3 +8,4 @@ pub mod Checks
 pub mod Patch
 pub mod ReadBack
 pub mod Order
+pub mod Frames

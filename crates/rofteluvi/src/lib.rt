@@ -45,7 +45,12 @@ pub extern "C" fn rofteluvi_patch(
 
 // Its place is always 0, and on refusal the value is 0.
 #[no_mangle]
-pub extern "C" fn rofteluvi_read_back(section: &[u8], address: u64, offset: u64, kind: u32) -> RofteluviImmediate
+pub extern "C" fn rofteluvi_read_back(
+    section: &[u8],
+    address: u64,
+    offset: u64,
+    kind: u32,
+) -> RofteluviImmediate
     ensures { λ r. ⌜ immediateIn r ≡ B.readBackOf 64 (now (section .entry)) address offset kind ⌝ }
 {
     let immediate = back::read_back(section, address, offset, kind as u64);

@@ -1,0 +1,370 @@
+-- Reading, line by line, over plain numbers and lists: a frame's parts, what a line decides, and what holds between two lines.
+use Prim.Native.Nat.{ℕ, zero, suc, _+_, _-_, _*_, _/_, _%_, _≤_, _<_}
+use native.Mathlib.Nat.{not-suc-le-zero}
+use native.Mathlib.Numerals.{add-one}
+use native.Mathlib.Omega.{arith}
+use mathlib.Core.Bool.{Bool, true, false, cond, not, _&&_, false≢true}
+use mathlib.Core.List.{List, [], _∷_, _++_}
+use mathlib.Core.Path.{_≡_, refl, sym, ap, _∙_, subst}
+use borrow.Author.Tests.{lt-ltb, le-ltb, eq-eqb, ne-eqb, eqb-true, leb-true, ltb-true, ltb-false}
+use lib.Dec.{eqb, ltb, leb}
+use lib.ListN.{length, take, drop, length-append, length-drop}
+use lib.Seq.{drop-drop, length-take-le, take-all}
+use Rattle.meaning.specs.Checks.{answer, first}
+use Rattle.meaning.specs.Frames.{linesOf, allDigits, hexadecimal, numeral, kind, body, sized, follows, wellFormed}
+use Rattle.meaning.specs.Frames.{Input, nothing, added, ofLine, Reading, reading, readingOf}
+use Rattle.frames.specs.declared.Gathered.{Gathered}
+use Rattle.frames.specs.Text.{lineLength, laid}
+use Rattle.frames.specs.Gathered.{inputIn, readingIn, Filled, refusedAs, overIn}
+use Rattle.frames.proofs.Laws.{first-line, length-body, length-laid, take-laid, drop-laid, no-lines}
+
+-- ---- a well-formed frame
+
+-- how many bytes a frame of each kind has
+pub data Sizes (k n : ℕ) : Type 0 where
+  one : k ≡ 1 → n ≡ 16 → Sizes k n
+  two : k ≡ 2 → 1 ≤ n → n ≤ 64 → Sizes k n
+  three : k ≡ 3 → n ≡ 56 → Sizes k n
+  four : k ≡ 4 → n ≡ 24 → Sizes k n
+
+pub both : (a b : Bool) → a && b ≡ true → (a ≡ true) × (b ≡ true)
+both true b e = (refl, e)
+both false b e = absurd (false≢true e)
+
+sizes : (k n : ℕ) → sized k n ≡ true → Sizes k n
+unfolding sized
+sizes k n e = go1 (eqb k 1) (eqb k 2) (eqb k 3) (eqb k 4) refl refl refl refl e
+  where
+    go1 : (a b d f : Bool) → eqb k 1 ≡ a → eqb k 2 ≡ b → eqb k 3 ≡ d → eqb k 4 ≡ f →
+        cond a (eqb n 16) (cond b (leb 1 n && leb n 64) (cond d (eqb n 56) (cond f (eqb n 24) false))) ≡ true → Sizes k n
+    go1 true b d f p q r s e = one (eqb-true k 1 p) (eqb-true n 16 e)
+    go1 false true d f p q r s e =
+        let h = both (leb 1 n) (leb n 64) e in
+        two (eqb-true k 2 q) (leb-true 1 n (h .0)) (leb-true n 64 (h .1))
+    go1 false false true f p q r s e = three (eqb-true k 3 r) (eqb-true n 56 e)
+    go1 false false false true p q r s e = four (eqb-true k 4 s) (eqb-true n 24 e)
+    go1 false false false false p q r s e = absurd (false≢true e)
+
+-- what that says in numbers
+pub record Bounds (k n : ℕ) : Type 0 where
+  pub some : 1 ≤ n
+  pub few : n ≤ 64
+  pub least : 1 ≤ k
+  pub most : k ≤ 4
+  pub numbers : k ≡ 1 → n ≡ 16
+
+pub bounds : {k n : ℕ} → Sizes k n → Bounds k n
+bounds (one p q) = record { some = omega arith; few = omega arith; least = omega arith; most = omega arith; numbers = λ e. q }
+bounds (two p q r) = record { some = q; few = r; least = omega arith; most = omega arith; numbers = λ e. omega arith }
+bounds (three p q) = record { some = omega arith; few = omega arith; least = omega arith; most = omega arith; numbers = λ e. omega arith }
+bounds (four p q) = record { some = omega arith; few = omega arith; least = omega arith; most = omega arith; numbers = λ e. omega arith }
+
+-- the last kind is no greater, and 01 comes first
+in-order : (last k : ℕ) → follows last k ≡ true → (last ≤ k) × (k ≡ 1 → last ≡ 0)
+unfolding follows
+in-order last k e = go (eqb last 0) refl e
+  where
+    go : (b : Bool) → eqb last 0 ≡ b → cond b (eqb k 1) (leb 2 k && leb last k) ≡ true → (last ≤ k) × (k ≡ 1 → last ≡ 0)
+    go true p e = let z : last ≡ 0 = eqb-true last 0 p in (omega arith, λ _. z)
+    go false p e =
+        let h = both (leb 2 k) (leb last k) e in
+        let two : 2 ≤ k = leb-true 2 k (h .0) in
+        (leb-true last k (h .1), λ one. omega arith)
+
+pub record Frame (last : ℕ) (line : List ℕ) (k : ℕ) : Type 0 where
+  pub formed : wellFormed last line ≡ true
+  pub is : k ≡ kind line
+  pub all : allDigits line ≡ true
+  pub even : length line % 2 ≡ 0
+  pub size : Sizes k ((length line - 2) / 2)
+  pub rising : last ≤ k
+  pub first : k ≡ 1 → last ≡ 0
+
+module _ (last : ℕ) (line : List ℕ) where
+  pub frame : wellFormed last line ≡ true → Frame last line (kind line)
+  unfolding wellFormed
+  frame e =
+      let h = both (hexadecimal line && sized (kind line) (length (body line))) (follows last (kind line)) e in
+      let q = both (hexadecimal line) (sized (kind line) (length (body line))) (h .0) in
+      let p = both (allDigits line) (eqb (length line % 2) 0) (q .0) in
+      let o = in-order last (kind line) (h .1) in
+      record {
+        formed = e;
+        is = refl;
+        all = p .0;
+        even = eqb-true (length line % 2) 0 (p .1);
+        size = rw length-body at (sizes (kind line) (length (body line)) (q .1));
+        rising = o .0;
+        first = o .1;
+      }
+
+  -- a kind of 0 says that the line is none
+  pub no-frame-0 : 0 ≡ cond (wellFormed last line) (kind line) 0 → wellFormed last line ≡ false
+  no-frame-0 e = go (wellFormed last line) refl e
+    where
+      go : (b : Bool) → wellFormed last line ≡ b → 0 ≡ cond b (kind line) 0 → b ≡ false
+      go true p z = let b = bounds (frame p .size) in absurd (omega arith)
+      go false p z = refl
+
+  pub frame-of : (k : ℕ) → k ≡ cond (wellFormed last line) (kind line) 0 → (k ≡ 0 → ⊥) → Frame last line k
+  frame-of k e h = go (wellFormed last line) refl e
+    where
+      go : (b : Bool) → wellFormed last line ≡ b → k ≡ cond b (kind line) 0 → Frame last line k
+      go true p z = subst (λ (j : ℕ). Frame last line j) (sym z) (frame p)
+      go false p z = absurd (h z)
+
+-- the numbers that a frame's size gives
+module _ (last : ℕ) (line : List ℕ) (k : ℕ) (f : Frame last line k) where
+  pub long : 4 ≤ length line
+  long = let b = bounds (f .size) in omega arith
+
+  pub two-numbers : k ≡ 1 → length line ≡ 34
+  two-numbers e = let n = bounds (f .size) .numbers e in let v = f .even in omega arith
+
+  -- each frame but the first adds a byte, so the kind and the bytes so far bound the number of lines
+  pub one-more : (lines s v q : ℕ) → lines ≤ last + (s + v + q) →
+      let n = (length line - 2) / 2 in
+      lines + 1 ≤ k + (s + cond (eqb k 2) n 0 + (v + cond (eqb k 3) n 0) + (q + cond (eqb k 4) n 0))
+  one-more lines s v q h = go (f .size)
+    where
+      go : Sizes k ((length line - 2) / 2) →
+          let n = (length line - 2) / 2 in
+          lines + 1 ≤ k + (s + cond (eqb k 2) n 0 + (v + cond (eqb k 3) n 0) + (q + cond (eqb k 4) n 0))
+      go (one p n) = let z = f .first p in rw p (omega arith)
+      go (two p n m) = let r : last ≤ 2 = rw p at (f .rising) in rw p (omega arith)
+      go (three p n) = let r : last ≤ 3 = rw p at (f .rising) in rw p (omega arith)
+      go (four p n) = let r : last ≤ 4 = rw p at (f .rising) in rw p (omega arith)
+
+-- ---- what a line decides
+
+module _ (i last : ℕ) (line : List ℕ) (got : Input) (ls : List (List ℕ)) where
+  pub bad-line : wellFormed last line ≡ false → reading i last got (line ∷ ls) ≡ record { refusal = answer 17 i; input = got }
+  unfolding reading ofLine first
+  bad-line e = rw e
+
+  -- the place of the buffer that the line would take past its limit
+  abbrev pub past : ℕ
+  past = let a = added line got in overIn (length (a .section)) (length (a .values)) (length (a .records))
+
+  pub good-line : wellFormed last line ≡ true →
+      reading i last got (line ∷ ls) ≡ cond (ltb past 3) (record { refusal = answer 1 past; input = got }) (reading (suc i) (kind line) (added line got) ls)
+  unfolding reading ofLine first
+  good-line e = let a = added line got in rw e (go (ltb 65536 (length (a .section))) (ltb 49152 (length (a .records))) (ltb 57344 (length (a .values))))
+    where
+      go : (x y z : Bool) →
+          let o : ℕ = cond x 0 (cond y 1 (cond z 2 3)) in
+          let r = reading (suc i) (kind line) (added line got) ls in
+          let a = cond x (answer 1 0) (cond y (answer 1 1) (cond z (answer 1 2) (answer 0 0))) in
+          cond (eqb (a .number) 0) r (record { refusal = a; input = got }) ≡ cond (ltb o 3) (record { refusal = answer 1 o; input = got }) r
+      go true y z = refl
+      go false true z = refl
+      go false false true = refl
+      go false false false = refl
+
+-- the lines from a place on: the one there, and those after it
+pub lines-here : (s : List ℕ) (at end : ℕ) → at < length s → end ≡ at + lineLength (drop at s) →
+    linesOf (drop at s) ≡ take (end - at) (drop at s) ∷ linesOf (drop (end + 1) s)
+lines-here s at end h e =
+    let p : 0 < length (drop at s) = rw length-drop (omega arith) in
+    let n : end - at ≡ lineLength (drop at s) = omega arith in
+    let m : end + 1 ≡ at + suc (lineLength (drop at s)) = omega arith in
+    rw (n, m, ← drop-drop (suc (lineLength (drop at s))) at s) (first-line (drop at s) p)
+
+-- ---- a buffer that a frame adds to
+
+-- the bytes that a frame has for a buffer, and how many
+abbrev pub own : ℕ → ℕ → List ℕ → List ℕ
+own k mine line = cond (eqb k mine) (body line) []
+
+pub length-own : (k mine : ℕ) (line : List ℕ) → length (own k mine line) ≡ cond (eqb k mine) ((length line - 2) / 2) 0
+length-own k mine line = go (eqb k mine)
+  where
+    go : (b : Bool) → length (cond b (body line) []) ≡ cond b ((length line - 2) / 2) 0
+    go true = length-body line
+    go false = refl
+
+-- how long a buffer's part is with them
+pub length-with : (limit n : ℕ) (came is : List ℕ) (k mine m : ℕ) (line : List ℕ) → Filled limit n came is →
+    m ≡ n + cond (eqb k mine) ((length line - 2) / 2) 0 → length (take n is ++ own k mine line) ≡ m
+length-with limit n came is k mine m line f e =
+    let h = f .whole in
+    let j = f .within in
+    let t : length (take n is) ≡ n = length-take-le n is (omega arith) in
+    let o : length (own k mine line) ≡ cond (eqb k mine) ((length line - 2) / 2) 0 = length-own k mine line in
+    length-append (take n is) (own k mine line) ∙ ap (λ (x : ℕ). x + length (own k mine line)) t ∙ ap (λ (x : ℕ). n + x) o ∙ sym e
+
+module _ (limit n : ℕ) (came is w next : List ℕ) (f : Filled limit n came is) (m : ℕ) (counted : m ≡ n + length w) (fits : m ≤ limit)
+    (e : next ≡ laid n w is) where
+  room : n + length w ≤ length is
+  room = let h = f .whole in omega arith
+
+  pub filled-more : Filled limit m came next
+  filled-more =
+      rw (e, counted)
+      (record {
+        whole = length-laid n is w room ∙ f .whole;
+        within = omega arith;
+        kept = drop-laid n is w room ∙ sym (drop-drop (length w) n is) ∙ ap (drop (length w)) (f .kept) ∙ drop-drop (length w) n came;
+      })
+
+  pub taken-more : take m next ≡ take n is ++ w
+  taken-more = rw (e, counted) (take-laid n is w room)
+
+-- no buffer is past its limit
+pub record Within (a b d : ℕ) : Type 0 where
+  pub section : a ≤ 65536
+  pub values : b ≤ 57344
+  pub records : d ≤ 49152
+
+pub within : (a b d o : ℕ) → o ≡ overIn a b d → 3 ≤ o → Within a b d
+within a b d o e h = go (ltb 65536 a) (ltb 49152 d) (ltb 57344 b) refl refl refl (rw e at h)
+  where
+    go : (x y z : Bool) → ltb 65536 a ≡ x → ltb 49152 d ≡ y → ltb 57344 b ≡ z → 3 ≤ cond x 0 (cond y 1 (cond z 2 3)) → Within a b d
+    go true y z p q r h = absurd (omega arith)
+    go false true z p q r h = absurd (omega arith)
+    go false false true p q r h = absurd (omega arith)
+    go false false false p q r h =
+        record { section = ltb-false 65536 a p; values = ltb-false 57344 b r; records = ltb-false 49152 d q }
+
+-- ---- between two lines
+
+pub record State (input s₀ v₀ q₀ s v q : List ℕ) (got : Gathered) (last lines at : ℕ) : Type 0 where
+  pub same : reading lines last (inputIn got s v q) (linesOf (drop at input)) ≡ readingOf input
+  pub number : got .number ≡ 0
+  pub place : got .place ≡ 0
+  pub on : at ≤ length input + 1
+  pub section : Filled 65536 (got .section) s₀ s
+  pub values : Filled 57344 (got .values) v₀ v
+  pub records : Filled 49152 (got .records) q₀ q
+  pub few : lines ≤ last + (got .section + got .values + got .records)
+  pub kinds : last ≤ 4
+
+-- what reading answers where it stops
+pub record Answered (input s₀ v₀ q₀ s v q : List ℕ) (r : Gathered) : Type 0 where
+  pub is : readingIn r s v q ≡ readingOf input
+  pub section : Filled 65536 (r .section) s₀ s
+  pub values : Filled 57344 (r .values) v₀ v
+  pub records : Filled 49152 (r .records) q₀ q
+
+-- the line between two places
+abbrev pub between : List ℕ → ℕ → ℕ → List ℕ
+between input at end = take (end - at) (drop at input)
+
+module _ {input s₀ v₀ q₀ : List ℕ} where
+  pub start : length s₀ ≡ 65536 → length v₀ ≡ 57344 → length q₀ ≡ 49152 →
+      State input s₀ v₀ q₀ s₀ v₀ q₀ (record { number = 0; place = 0; address = 0; gp = 0; section = 0; values = 0; records = 0 }) 0 0 0
+  start a b d =
+      record {
+        same = refl;
+        number = refl;
+        place = refl;
+        on = omega arith;
+        section = record { whole = a; within = omega arith; kept = refl };
+        values = record { whole = b; within = omega arith; kept = refl };
+        records = record { whole = d; within = omega arith; kept = refl };
+        few = omega arith;
+        kinds = omega arith;
+      }
+
+  module _ {s v q : List ℕ} {got : Gathered} {last lines at : ℕ} (now : State input s₀ v₀ q₀ s v q got last lines at) where
+    -- an answer with a refusal, which keeps what was gathered
+    pub stopped : (number place : ℕ) (r : Gathered) → r ≡ refusedAs number place got →
+        record { refusal = answer number place; input = inputIn got s v q } ≡ readingOf input → Answered input s₀ v₀ q₀ s v q r
+    stopped number place r e h = rw e (record { is = h; section = now .section; values = now .values; records = now .records })
+
+    -- after the last line
+    pub ended : length input ≤ at → (last ≡ 0 → ⊥) → Answered input s₀ v₀ q₀ s v q got
+    unfolding reading first
+    ended h k =
+        let e = now .same in
+        record {
+          is = rw (now .number, now .place) (sym (sym (now .same) ∙ rw (no-lines input at h, ne-eqb last 0 k)));
+          section = now .section;
+          values = now .values;
+          records = now .records;
+        }
+
+    pub nothing-read : length input ≤ at → last ≡ 0 → record { refusal = answer 17 lines; input = inputIn got s v q } ≡ readingOf input
+    unfolding reading first
+    nothing-read h k = sym (sym (now .same) ∙ rw (no-lines input at h, k))
+
+    module _ (end : ℕ) (in-line : at < length input) (ends : end ≡ at + lineLength (drop at input)) where
+      from-line : reading lines last (inputIn got s v q) ((between input at end) ∷ linesOf (drop (end + 1) input)) ≡ readingOf input
+      from-line = rw (← lines-here input at end in-line ends) (now .same)
+
+      pub bad-here : 0 ≡ cond (wellFormed last (between input at end)) (kind (between input at end)) 0 → record { refusal = answer 17 lines; input = inputIn got s v q } ≡ readingOf input
+      bad-here e = sym (bad-line lines last (between input at end) (inputIn got s v q) (linesOf (drop (end + 1) input)) (no-frame-0 last (between input at end) e)) ∙ from-line
+
+      module _ (k : ℕ) (f : Frame last (between input at end) k) (a b d : ℕ)
+          (in-section : a ≡ got .section + cond (eqb k 2) ((length (between input at end) - 2) / 2) 0)
+          (in-values : b ≡ got .values + cond (eqb k 3) ((length (between input at end) - 2) / 2) 0)
+          (in-records : d ≡ got .records + cond (eqb k 4) ((length (between input at end) - 2) / 2) 0) where
+        past-is : past lines last (between input at end) (inputIn got s v q) (linesOf (drop (end + 1) input)) ≡ overIn a b d
+        past-is =
+            rw (
+              ← f .is,
+              length-with 65536 (got .section) s₀ s k 2 a (between input at end) (now .section) in-section,
+              length-with 57344 (got .values) v₀ v k 3 b (between input at end) (now .values) in-values,
+              length-with 49152 (got .records) q₀ q k 4 d (between input at end) (now .records) in-records,
+            )
+
+        decided : cond (ltb (overIn a b d) 3) (record { refusal = answer 1 (overIn a b d); input = inputIn got s v q })
+            (reading (suc lines) (kind (between input at end)) (added (between input at end) (inputIn got s v q)) (linesOf (drop (end + 1) input)))
+            ≡ readingOf input
+        decided = rw (← past-is) (sym (good-line lines last (between input at end) (inputIn got s v q) (linesOf (drop (end + 1) input)) (f .formed)) ∙ from-line)
+
+        pub past-here : (o : ℕ) → o ≡ overIn a b d → o < 3 → record { refusal = answer 1 o; input = inputIn got s v q } ≡ readingOf input
+        past-here o e h = let t : ltb (overIn a b d) 3 ≡ true = lt-ltb (overIn a b d) 3 (rw e at h) in rw e (rw t at decided)
+
+        -- the state after the line
+        module _ (o : ℕ) (judged : o ≡ overIn a b d) (fits : 3 ≤ o) (to-end : end ≤ length input) (s' v' q' : List ℕ) (address gp : ℕ)
+            (section' : s' ≡ laid (got .section) (own k 2 (between input at end)) s)
+            (values' : v' ≡ laid (got .values) (own k 3 (between input at end)) v)
+            (records' : q' ≡ laid (got .records) (own k 4 (between input at end)) q)
+            (address' : address ≡ cond (eqb k 1) (numeral 0 (take 16 (drop 2 (between input at end)))) (got .address))
+            (gp' : gp ≡ cond (eqb k 1) (numeral 0 (take 16 (drop 18 (between input at end)))) (got .gp)) where
+          abbrev got' : Gathered
+          got' = record { number = 0; place = 0; address = address; gp = gp; section = a; values = b; records = d }
+
+          inside : Within a b d
+          inside = within a b d o judged fits
+
+          counted : (m n mine : ℕ) → m ≡ n + cond (eqb k mine) ((length (between input at end) - 2) / 2) 0 → m ≡ n + length (own k mine (between input at end))
+          counted m n mine e = e ∙ ap (λ (x : ℕ). n + x) (sym (length-own k mine (between input at end)))
+
+          -- the second number's digits are all that is left
+          second : cond (eqb k 1) (numeral 0 (drop 18 (between input at end))) (got .gp) ≡ gp
+          second = sym (gp' ∙ go (eqb k 1) refl)
+            where
+              go : (t : Bool) → eqb k 1 ≡ t → cond t (numeral 0 (take 16 (drop 18 (between input at end)))) (got .gp) ≡ cond t (numeral 0 (drop 18 (between input at end))) (got .gp)
+              go true e =
+                  let n : length (between input at end) ≡ 34 = two-numbers last (between input at end) k f (eqb-true k 1 e) in
+                  ap (numeral 0) (take-all 16 (drop 18 (between input at end)) (rw length-drop (omega arith)))
+              go false e = refl
+
+          now-added : added (between input at end) (inputIn got s v q) ≡ inputIn got' s' v' q'
+          now-added =
+              rw (
+                ← f .is,
+                ← address',
+                second,
+                taken-more 65536 (got .section) s₀ s (own k 2 (between input at end)) s' (now .section) a (counted a (got .section) 2 in-section) (inside .section) section',
+                taken-more 57344 (got .values) v₀ v (own k 3 (between input at end)) v' (now .values) b (counted b (got .values) 3 in-values) (inside .values) values',
+                taken-more 49152 (got .records) q₀ q (own k 4 (between input at end)) q' (now .records) d (counted d (got .records) 4 in-records) (inside .records) records',
+              )
+
+          pub next : State input s₀ v₀ q₀ s' v' q' got' k (lines + 1) (end + 1)
+          next =
+              let t : ltb (overIn a b d) 3 ≡ false = le-ltb (overIn a b d) 3 (rw judged at fits) in
+              let going : reading (suc lines) (kind (between input at end)) (added (between input at end) (inputIn got s v q)) (linesOf (drop (end + 1) input)) ≡ readingOf input = rw t at decided in
+              record {
+                same = rw (add-one lines, f .is, ← now-added) going;
+                number = refl;
+                place = refl;
+                on = omega arith;
+                section = filled-more 65536 (got .section) s₀ s (own k 2 (between input at end)) s' (now .section) a (counted a (got .section) 2 in-section) (inside .section) section';
+                values = filled-more 57344 (got .values) v₀ v (own k 3 (between input at end)) v' (now .values) b (counted b (got .values) 3 in-values) (inside .values) values';
+                records = filled-more 49152 (got .records) q₀ q (own k 4 (between input at end)) q' (now .records) d (counted d (got .records) 4 in-records) (inside .records) records';
+                few = rw (in-section, in-values, in-records) (one-more last (between input at end) k f lines (got .section) (got .values) (got .records) (now .few));
+                kinds = bounds (f .size) .most;
+              }

@@ -1,0 +1,56 @@
+use borrow.Author.Needs.{needs}
+use mathlib.Core.Path.{_≡_, refl}
+use native.Mathlib.Omega.{arith}
+use lib.ListN.{length-set}
+use Rattle.frames.proofs.Writer.{line-whole, line-put}
+use Rattle.frames.proofs.put_line.Statement.{statement}
+use Rattle.frames.proofs.put_line.Tie as tie
+use Rattle.frames.proofs.put_line.Reads as reads
+use Rattle.frames.proofs.put_line.Lts as lts
+use Rattle.frames.proofs.put_bytes.Reads as put-bytes-reads
+use Rattle.frames.proofs.put_digits.Reads as put-digits-reads
+
+put-digits-requires : tie.Need-put-digits-requires
+put-digits-requires c κs = search needs
+
+add-put-bytes : tie.Need-add-put-bytes
+add-put-bytes c = search needs
+
+put-bytes-requires : tie.Need-put-bytes-requires
+put-bytes-requires c κs = search needs
+
+mul-end : tie.Need-mul-end
+mul-end c = search needs
+
+add-end : tie.Need-add-end
+add-end c = search needs
+
+add-end-2 : tie.Need-add-end-2
+add-end-2 c = search needs
+
+slice-write-out : tie.Need-slice-write-out
+slice-write-out c = search needs
+
+add-result : tie.Need-add-result
+add-result c = search needs
+
+same-length : tie.Need-same-length
+same-length c = let a = c .before .before .before .before .before .before .before .before .before .before .args in rw length-set (line-whole (a .at) _ (a .bytes .now) (a .out .now) _ _ (c .before .before .before .before .before .before .before .before .before .before .pre) (c .before .before .before .before .before .before .put-digits .ensures) (c .before .before .put-bytes .ensures) refl)
+
+returns : tie.Need-returns
+returns c = let a = c .before .before .before .before .before .before .before .before .before .before .args in (line-put (a .at) _ (a .bytes .now) (a .out .now) _ _ (c .before .before .before .before .before .before .before .before .before .before .pre) (c .before .before .before .before .before .before .put-digits .ensures) (c .before .before .put-bytes .ensures) refl, search needs)
+
+pub put-line-spec : {M : Type 1} → statement M
+put-line-spec =
+    tie.close
+    (tie.spec
+    put-digits-requires
+    add-put-bytes
+    put-bytes-requires
+    mul-end
+    add-end
+    add-end-2
+    slice-write-out
+    add-result
+    same-length
+    returns)

@@ -1,0 +1,20 @@
+-- Bytes of text, as the code goes through them.
+use Prim.Native.Nat.{ℕ, zero, suc, _+_}
+use mathlib.Core.Bool.{cond}
+use mathlib.Core.List.{List, [], _∷_, _++_}
+use lib.Dec.{eqb}
+use lib.ListN.{length, take, drop}
+use Rattle.meaning.specs.Frames.{digits, digitsOf, line-feed}
+
+-- how many bytes stand before the first line feed, or before the end
+unfoldable pub lineLength : List ℕ → ℕ
+lineLength [] = 0
+lineLength (b ∷ bs) = cond (eqb b 10) 0 (suc (lineLength bs))
+
+-- the bytes w laid over those of s from a place on; every other byte stays
+unfoldable pub laid : ℕ → List ℕ → List ℕ → List ℕ
+laid at w s = take at s ++ (w ++ drop (at + length w) s)
+
+-- one 02 line of output
+abbrev pub frame02 : List ℕ → List ℕ
+frame02 bytes = digits 2 2 ++ (digitsOf bytes ++ line-feed)

@@ -1,0 +1,422 @@
+// The program's text: frames read into lent buffers, and an answer written as text.
+ghost use mathlib.Core.Bool.{true, cond};
+ghost use mathlib.Core.List.{[], _++_};
+ghost use mathlib.Core.Path.{_≡_};
+ghost use Prim.Native.Nat.{_+_, _-_, _*_, _/_, _≤_, _<_};
+ghost use lib.Dec.{eqb};
+ghost use lib.ListN.{length, take, drop};
+ghost use Rattle.meaning.specs.Checks.{answer};
+ghost use Rattle.meaning.specs.Frames as F;
+ghost use Rattle.frames.specs.Text.{lineLength, laid, frame02};
+ghost use Rattle.frames.specs.Gathered.{readingIn, Filled, refusedAs, overIn};
+
+// The limits of the buffers, in bytes.
+pub const SECTION: usize = 65536;
+
+pub const VALUES: usize = 57344;
+
+pub const RECORDS: usize = 49152;
+
+// ---- reading
+
+// The number that a digit stands for, of either letter case, and 16 for a byte that is no digit.
+fn digit(b: u8) -> u8
+    ensures { λ r. ⌜ r ≡ F.digit b ⌝ }
+{
+    if b < 48 {
+        return 16;
+    }
+    if b <= 57 {
+        return b - 48;
+    }
+    if b < 65 {
+        return 16;
+    }
+    if b <= 70 {
+        return 10 + (b - 65);
+    }
+    if b < 97 {
+        return 16;
+    }
+    if b <= 102 {
+        return 10 + (b - 97);
+    }
+    16
+}
+
+// Where the line that starts at `at` ends: at its line feed, or at the input's end.
+fn line_end(input: &[u8], at: usize) -> usize
+    requires { ⌜ at ≤ length (now input) ⌝ }
+    ensures { λ r. ⌜ (r ≡ at + lineLength (drop at (now (input .entry)))) × (r ≤ length (now (input .entry))) ⌝ }
+{
+    let mut end = at;
+    while end < input.len() {
+        if input[end] == 10 {
+            return end;
+        }
+        end += 1;
+    }
+    end
+}
+
+fn all_digits(line: &[u8]) -> bool
+    ensures { λ r. ⌜ r ≡ F.allDigits (now (line .entry)) ⌝ }
+{
+    let mut i = 0;
+    while i < line.len() {
+        if digit(line[i]) >= 16 {
+            return false;
+        }
+        i += 1;
+    }
+    true
+}
+
+// The byte of two digits.
+fn byte(high: u8, low: u8) -> u8
+    requires { ⌜ (F.digit high < 16) × (F.digit low < 16) ⌝ }
+    ensures { λ r. ⌜ r ≡ 16 * F.digit high + F.digit low ⌝ }
+{
+    16 * digit(high) + digit(low)
+}
+
+// How many bytes a frame of each kind has.
+fn sized(kind: u8, n: usize) -> bool
+    ensures { λ r. ⌜ r ≡ F.sized kind n ⌝ }
+{
+    if kind == 1 {
+        return n == 16;
+    }
+    if kind == 2 {
+        if 1 <= n {
+            return n <= 64;
+        }
+        return false;
+    }
+    if kind == 3 {
+        return n == 56;
+    }
+    if kind == 4 {
+        return n == 24;
+    }
+    false
+}
+
+// Which kind may come after the last one, which is 0 before the first frame.
+fn follows(last: u8, kind: u8) -> bool
+    ensures { λ r. ⌜ r ≡ F.follows last kind ⌝ }
+{
+    if last == 0 {
+        return kind == 1;
+    }
+    if 2 <= kind {
+        return last <= kind;
+    }
+    false
+}
+
+// The kind of a line that is a well-formed frame after one of kind `last`, and 0 for any other.
+fn kind_of(last: u8, line: &[u8]) -> u8
+    ensures { λ r. ⌜ r ≡ cond (F.wellFormed last (now (line .entry))) (F.kind (now (line .entry))) 0 ⌝ }
+{
+    let n = line.len();
+    if !all_digits(line) {
+        return 0;
+    }
+    if n % 2 != 0 {
+        return 0;
+    }
+    if n == 0 {
+        return 0;
+    }
+    let kind = byte(line[0], line[1]);
+    if !sized(kind, (n - 2) / 2) {
+        return 0;
+    }
+    if !follows(last, kind) {
+        return 0;
+    }
+    kind
+}
+
+// The number of the sixteen digits at `at`.
+fn number(line: &[u8], at: usize) -> u64
+    requires { ⌜ at + 16 ≤ length (now line) ⌝ }
+    requires { ⌜ F.allDigits (now line) ≡ true ⌝ }
+    ensures { λ r. ⌜ r ≡ F.numeral 0 (take 16 (drop at (now (line .entry)))) ⌝ }
+{
+    let mut x: u64 = 0;
+    let mut i = 0;
+    while i < 16 {
+        x = 16 * x + digit(line[at + i]) as u64;
+        i += 1;
+    }
+    x
+}
+
+// The number at `at` where the frame is of kind 1, and otherwise the one that was read before.
+fn numbered(kind: u8, line: &[u8], at: usize, before: u64) -> u64
+    requires { ⌜ (kind ≡ 1 → at + 16 ≤ length (now line)) ⌝ }
+    requires { ⌜ F.allDigits (now line) ≡ true ⌝ }
+    ensures { λ r. ⌜ r ≡ cond (eqb kind 1) (F.numeral 0 (take 16 (drop at (now (line .entry))))) before ⌝ }
+{
+    if kind == 1 {
+        return number(line, at);
+    }
+    before
+}
+
+// Lays the bytes of a frame into a buffer, from `used` on.
+fn append(buffer: &mut [u8], used: usize, line: &[u8])
+    requires { ⌜ 2 ≤ length (now line) ⌝ }
+    requires { ⌜ F.allDigits (now line) ≡ true ⌝ }
+    requires { ⌜ used + (length (now line) - 2) / 2 ≤ length (now buffer) ⌝ }
+    ensures { λ _. ⌜ now (buffer .exit) ≡ laid used (F.body (now (line .entry))) (now (buffer .entry)) ⌝ }
+{
+    let mut at = used;
+    let mut from = 2;
+    while from + 1 < line.len() {
+        buffer[at] = byte(line[from], line[from + 1]);
+        at += 1;
+        from += 2;
+    }
+}
+
+// How much of a buffer is used after n bytes for it, where the frame is of its own kind.
+fn after(kind: u8, own: u8, used: usize, n: usize) -> usize
+    requires { ⌜ (used ≤ 65536) × (n ≤ 64) ⌝ }
+    ensures { λ r. ⌜ r ≡ used + cond (eqb kind own) n 0 ⌝ }
+{
+    if kind == own {
+        return used + n;
+    }
+    used
+}
+
+// The place of the first buffer that is past its limit, and 3 for none.
+fn over(section: usize, values: usize, records: usize) -> u32
+    ensures { λ r. ⌜ r ≡ overIn section values records ⌝ }
+{
+    if section > SECTION {
+        return 0;
+    }
+    if records > RECORDS {
+        return 1;
+    }
+    if values > VALUES {
+        return 2;
+    }
+    3
+}
+
+// Lays the bytes of a frame into the buffer of its own kind, and leaves any other as it is.
+fn keep(kind: u8, own: u8, buffer: &mut [u8], used: usize, line: &[u8])
+    requires { ⌜ 2 ≤ length (now line) ⌝ }
+    requires { ⌜ F.allDigits (now line) ≡ true ⌝ }
+    requires { ⌜ used + cond (eqb kind own) ((length (now line) - 2) / 2) 0 ≤ length (now buffer) ⌝ }
+    ensures { λ _. ⌜ now (buffer .exit) ≡ laid used (cond (eqb kind own) (F.body (now (line .entry))) []) (now (buffer .entry)) ⌝ }
+{
+    if kind == own {
+        append(buffer, used, line);
+    }
+}
+
+// What was read: the number of a refusal and its place, or 0; the two numbers; and how many bytes each buffer holds.
+pub struct Gathered {
+    pub number: u32,
+    pub place: u32,
+    pub address: u64,
+    pub gp: u64,
+    pub section: usize,
+    pub values: usize,
+    pub records: usize,
+}
+
+impl Gathered {
+    fn refused(self, number: u32, place: u32) -> Self
+        ensures { λ r. ⌜ r ≡ refusedAs number place self ⌝ }
+    {
+        Self {
+            number,
+            place,
+            address: self.address,
+            gp: self.gp,
+            section: self.section,
+            values: self.values,
+            records: self.records,
+        }
+    }
+}
+
+// Reads all frames into the three buffers, line by line up to the first fault. The bytes past those counted stay as they came.
+pub fn read(input: &[u8], section: &mut [u8], values: &mut [u8], records: &mut [u8]) -> Gathered
+    requires { ⌜ length (now section) ≡ 65536 ⌝ }
+    requires { ⌜ length (now values) ≡ 57344 ⌝ }
+    requires { ⌜ length (now records) ≡ 49152 ⌝ }
+    ensures { λ r. ⌜ readingIn r (now (section .exit)) (now (values .exit)) (now (records .exit)) ≡ F.readingOf (now (input .entry)) ⌝ }
+    ensures { λ r. ⌜ Filled 65536 (r .section) (now (section .entry)) (now (section .exit)) ⌝ }
+    ensures { λ r. ⌜ Filled 57344 (r .values) (now (values .entry)) (now (values .exit)) ⌝ }
+    ensures { λ r. ⌜ Filled 49152 (r .records) (now (records .entry)) (now (records .exit)) ⌝ }
+{
+    let mut got = Gathered {
+        number: 0,
+        place: 0,
+        address: 0,
+        gp: 0,
+        section: 0,
+        values: 0,
+        records: 0,
+    };
+    let mut last: u8 = 0;
+    let mut lines: u32 = 0;
+    let mut at = 0;
+    while at < input.len() {
+        let end = line_end(input, at);
+        let line = &input[at..end];
+        let kind = kind_of(last, line);
+        if kind == 0 {
+            return got.refused(17, lines);
+        }
+        let n = (line.len() - 2) / 2;
+        let in_section = after(kind, 2, got.section, n);
+        let in_values = after(kind, 3, got.values, n);
+        let in_records = after(kind, 4, got.records, n);
+        let over = over(in_section, in_values, in_records);
+        if over < 3 {
+            return got.refused(1, over);
+        }
+        // only now is any of its bytes stored, in the one buffer that its kind names
+        keep(kind, 2, section, got.section, line);
+        keep(kind, 3, values, got.values, line);
+        keep(kind, 4, records, got.records, line);
+        let address = numbered(kind, line, 2, got.address);
+        let gp = numbered(kind, line, 18, got.gp);
+        got = Gathered {
+            number: 0,
+            place: 0,
+            address,
+            gp,
+            section: in_section,
+            values: in_values,
+            records: in_records,
+        };
+        last = kind;
+        lines += 1;
+        at = end + 1;
+    }
+    if last == 0 {
+        return got.refused(17, lines);
+    }
+    got
+}
+
+// ---- writing
+
+// The longest output: a first line of 11 bytes, and a full section's 1,024 lines of 131.
+pub const OUTPUT: usize = 134155;
+
+fn wide(x: u8) -> u32
+    ensures { λ r. ⌜ r ≡ x ⌝ }
+{
+    x as u32
+}
+
+// The digit for a number below 16. Lower case is written.
+fn digit_for(d: u32) -> u8
+    requires { ⌜ d < 16 ⌝ }
+    ensures { λ r. ⌜ r ≡ F.digitFor d ⌝ }
+{
+    if d < 10 {
+        return (48 + d) as u8;
+    }
+    (97 + (d - 10)) as u8
+}
+
+// Writes the low n digits of x at `at`, the highest first.
+fn put_digits(out: &mut [u8], at: usize, n: usize, x: u32)
+    requires { ⌜ (n ≤ 8) × (at + n ≤ length (now out)) ⌝ }
+    ensures { λ _. ⌜ now (out .exit) ≡ laid at (F.digits n x) (now (out .entry)) ⌝ }
+{
+    let mut to = at;
+    let mut left = n;
+    while 0 < left {
+        left -= 1;
+        out[to] = digit_for((x >> (4 * left)) % 16);
+        to += 1;
+    }
+}
+
+// Writes bytes at `at`, two digits each.
+fn put_bytes(out: &mut [u8], at: usize, bytes: &[u8])
+    requires { ⌜ at + 2 * length (now bytes) ≤ length (now out) ⌝ }
+    ensures { λ _. ⌜ now (out .exit) ≡ laid at (F.digitsOf (now (bytes .entry))) (now (out .entry)) ⌝ }
+{
+    let mut to = at;
+    let mut i = 0;
+    while i < bytes.len() {
+        put_digits(out, to, 2, wide(bytes[i]));
+        to += 2;
+        i += 1;
+    }
+}
+
+// Writes one 02 line, and answers the place after it.
+fn put_line(out: &mut [u8], at: usize, bytes: &[u8]) -> usize
+    requires { ⌜ at + (2 * length (now bytes) + 3) ≤ length (now out) ⌝ }
+    ensures { λ _. ⌜ now (out .exit) ≡ laid at (frame02 (now (bytes .entry))) (now (out .entry)) ⌝ }
+    ensures { λ r. ⌜ r ≡ at + (2 * length (now (bytes .entry)) + 3) ⌝ }
+{
+    put_digits(out, at, 2, 2);
+    put_bytes(out, at + 2, bytes);
+    let end = at + (2 * bytes.len() + 2);
+    out[end] = 10;
+    end + 1
+}
+
+// Where the line of output that starts at `from` ends: after 64 bytes, or at the section's end.
+fn piece_end(from: usize, len: usize) -> usize
+    requires { ⌜ from < len ⌝ }
+    ensures { λ r. ⌜ (from < r) × (r ≤ from + 64) × (r ≤ len) ⌝ }
+    ensures { λ r. ⌜ (r < from + 64 → r ≡ len) ⌝ }
+{
+    if len - from < 64 {
+        return len;
+    }
+    from + 64
+}
+
+// Writes the section as 02 lines of 64 bytes, the last shorter, and answers the place after them.
+fn put_section(out: &mut [u8], at: usize, section: &[u8]) -> usize
+    requires { ⌜ at + length (F.sectionLines (now section)) ≤ length (now out) ⌝ }
+    ensures { λ _. ⌜ now (out .exit) ≡ laid at (F.sectionLines (now (section .entry))) (now (out .entry)) ⌝ }
+    ensures { λ r. ⌜ r ≡ at + length (F.sectionLines (now (section .entry))) ⌝ }
+{
+    let mut to = at;
+    let mut from = 0;
+    while from < section.len() {
+        let end = piece_end(from, section.len());
+        to = put_line(out, to, &section[from..end]);
+        from = end;
+    }
+    to
+}
+
+// Writes the program's output for an answer and a section into the front of `out`, and answers how long it is.
+pub fn write(section: &[u8], number: u32, place: u32, out: &mut [u8]) -> usize
+    requires { ⌜ length (now section) ≤ 65536 ⌝ }
+    requires { ⌜ length (now out) ≡ 134155 ⌝ }
+    ensures { λ r. ⌜ now (out .exit) ≡ F.written (answer number place) (now (section .entry)) ++ drop r (now (out .entry)) ⌝ }
+    ensures { λ r. ⌜ r ≡ length (F.written (answer number place) (now (section .entry))) ⌝ }
+{
+    if number == 0 {
+        put_digits(out, 0, 2, 0);
+        put_digits(out, 2, 8, place);
+        out[10] = 10;
+        return put_section(out, 11, section);
+    }
+    put_digits(out, 0, 2, 255);
+    put_digits(out, 2, 2, number);
+    put_digits(out, 4, 8, place);
+    out[12] = 10;
+    13
+}

@@ -1,0 +1,49 @@
+use borrow.Author.Needs.{needs}
+use mathlib.Core.Path.{_≡_, ap, _∙_}
+use Rattle.meaning.specs.Checks.{Answer}
+use Rattle.patcher.proofs.Laws.{wrote}
+use Rattle.patcher.proofs.patch_and_write.Statement.{statement}
+use Rattle.patcher.proofs.patch_and_write.Tie as tie
+use Rattle.patcher.proofs.patch_and_write.Reads as reads
+use Rattle.patcher.proofs.patch_and_write.Lts as lts
+use Rattle.frames.proofs.write.Reads as write-reads
+use Rattle.patch.proofs.patch.Reads as patch-reads
+use Rattle.patcher.proofs.number_of.Reads as number-of-reads
+use Rattle.patcher.proofs.place_of.Reads as place-of-reads
+
+patch-requires : tie.Need-patch-requires
+patch-requires c κs = search needs
+
+number-of-requires : tie.Need-number-of-requires
+number-of-requires c κs = search needs
+
+place-of-requires : tie.Need-place-of-requires
+place-of-requires c κs = search needs
+
+write-requires : tie.Need-write-requires
+write-requires c κs = search needs
+
+same-length : tie.Need-same-length
+same-length c = search needs
+
+same-length-2 : tie.Need-same-length-2
+same-length-2 c = search needs
+
+returns : tie.Need-returns
+returns c =
+    let says = c .before .before .before .before .before .before .before .before .before .patch .ensures .0 .says in
+    wrote (c .before .before .before .before .before .number-of .result) (c .before .before .before .before .place-of .result) (c .before .before .write .result) _ _ _ _ _
+    (c .before .before .before .before .before .number-of .ensures ∙ ap (λ (a : Answer). a .number) says) (c .before .before .before .before .place-of .ensures ∙ ap (λ (a : Answer). a .place) says) (c .before .before .before .before .before .before .before .before .before .patch .ensures .1)
+    (c .before .before .write .ensures .0) (c .before .before .write .ensures .1)
+
+pub patch-and-write-spec : {M : Type 1} → statement M
+patch-and-write-spec =
+    tie.close
+    (tie.spec
+    patch-requires
+    number-of-requires
+    place-of-requires
+    write-requires
+    same-length
+    same-length-2
+    returns)
