@@ -4,6 +4,7 @@
 #   make test            the archive against an independent C implementation; and the program's frames, where tests/frames/run is
 #   make example         builds and runs host/example.c
 #   make bench           instructions per record, code size and stack, beside plain C
+#   make bench-program   instructions of the program on the largest input (x86-64 only)
 #   make install         header, archive, program and pkg-config file, under PREFIX (and DESTDIR)
 #   make clean           removes what the C side built; what rt proved and compiled stays (make distclean removes it too)
 #
@@ -48,7 +49,7 @@ TEST_H  := $(wildcard tests/host/*.h) include/rofteluvi.h
 # plain.c under the archive's names, to be tested in its place
 AS_ARCHIVE := -Dplain_patch=rofteluvi_patch -Dplain_read_back=rofteluvi_read_back
 
-.PHONY: all test test-plain test-sanitize test-broken example bench install clean distclean compiler FORCE
+.PHONY: all test test-plain test-sanitize test-broken example bench bench-program install clean distclean compiler FORCE
 .DELETE_ON_ERROR:
 
 all: $(ARCHIVE) $(PROGRAM)
@@ -114,6 +115,9 @@ $(OUT)/bench: bench/bench.c bench/plain.h $(OUT)/plain.o $(ARCHIVE) $(OUT)/linke
 
 bench: test-plain $(OUT)/bench
 	RT=$(RT) bench/run $(OUT)/bench $(ARCHIVE) $(OUT)/plain.o
+
+bench-program: target/bin/patcher
+	bench/program $<
 
 # ---- Installation ----
 

@@ -11,3 +11,4 @@ pub mod Order
 pub mod FieldBack
 pub mod ReadBack
 pub mod Unique
+pub mod Program

@@ -1,7 +1,6 @@
 -- The call: its three lists of checks one after the other, and what each outcome makes of the answer and of the section.
 use Prim.Native.Nat.{ℕ, suc, _≤_}
 use native.Mathlib.Omega.{arith}
-use mathlib.Core.Bool.{true, false}
 use mathlib.Core.List.{List, [], _∷_, _++_}
 use mathlib.Core.Path.{_≡_, refl, sym, ap, _∙_, subst}
 use borrow.Author.Tests.{ltb-false, eq-eqb, ne-eqb}
@@ -14,7 +13,7 @@ use Rattle.meaning.specs.Patch.{setting, answerOf, patched, sectionOf}
 use Rattle.lemmas.specs.First.{Every, Passes, Numbered, first-append, first-passed, first-stops, zero-passes}
 use Rattle.patch.specs.declared.Answer.{Answer}
 use Rattle.patch.specs.declared.Answer.the-variants.{Patched, Refused}
-use Rattle.patch.specs.Answers.{answerIn, Proper, Answers, limitChecks, passed}
+use Rattle.patch.specs.Answers.{answerIn, Proper, Answers, limitChecks}
 use Rattle.patch.proofs.Laws.{accepted}
 
 -- ---- one list of checks, by what it answered

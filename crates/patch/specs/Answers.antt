@@ -1,14 +1,11 @@
 -- The answers of the code by document 01's numbers.
 use Prim.Native.Nat.{ℕ, _%_}
-use mathlib.Core.Bool.{Bool, true, false, not}
+use mathlib.Core.Bool.{not}
 use mathlib.Core.List.{List, [], _∷_}
 use mathlib.Core.Path.{_≡_}
 use lib.Dec.{eqb, ltb}
-use Rattle.meaning.specs.Call.{Setting, Record}
 use Rattle.meaning.specs.Checks as C
 use Rattle.meaning.specs.Checks.{answer, check}
-use Rattle.meaning.specs.Patch.{patched}
-use Rattle.meaning.specs.Stack.{Stack}
 use Rattle.patch.specs.declared.Answer.{Answer}
 use Rattle.patch.specs.declared.Answer.the-variants.{Patched, Refused}
 
@@ -26,11 +23,6 @@ Proper (Refused n p) = n ≡ 0 → ⊥
 pub record Answers (r : Answer) (a : C.Answer) : Type 0 where
   pub says : answerIn r ≡ a
   pub proper : Proper r
-
--- What a pass over the records leaves in the section: what they leave where it writes, else what was there.
-abbrev pub passed : Bool → Setting → Stack → List ℕ → List Record → List ℕ
-passed true c st s rs = patched c st s rs
-passed false c st s rs = s
 
 -- The checks of the call's lengths, 1 and 2, as the meaning's list begins.
 abbrev pub limitChecks : ℕ → ℕ → ℕ → List C.Check

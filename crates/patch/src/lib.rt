@@ -1,18 +1,19 @@
 // Patch: the whole list is judged, in the order of the checks, before the first byte is written.
 use stack::Stack;
+use steps::Record;
 use steps::Setting;
 ghost use mathlib.Core.Path.{_≡_};
-ghost use mathlib.Core.Bool.{true};
 ghost use mathlib.Core.List.{[]};
-ghost use Prim.Native.Nat.{_≤_, _/_};
+ghost use Prim.Native.Nat.{_/_, _≤_, _<_};
 ghost use lib.ListN.{length};
 ghost use Rattle.meaning.specs.Numbers.{pieces};
-ghost use Rattle.meaning.specs.Call.{recordsOf};
+ghost use Rattle.meaning.specs.Call.{recordOf, recordsOf};
 ghost use Rattle.meaning.specs.Checks as C;
 ghost use Rattle.meaning.specs.Patch as P;
+ghost use Rattle.lemmas.specs.Pieces.{piece};
 ghost use Rattle.table.specs.Columns.{lines};
-ghost use Rattle.steps.specs.Step.{given};
-ghost use Rattle.patch.specs.Answers.{Answers, limitChecks, passed};
+ghost use Rattle.steps.specs.Step.{asRecord, given};
+ghost use Rattle.patch.specs.Answers.{Answers, limitChecks};
 
 // A record is 24 bytes, a value row 56.
 const RECORD: usize = 24;
@@ -64,40 +65,31 @@ fn masks(values: &[u8]) -> Answer
     Answer::Patched(0)
 }
 
-// One pass over the records, each with the stack that the earlier ones left: it judges them, and where it is to write, writes each. It
-// writes only what has been judged before.
-fn pass(
-    rows: &[[u8; 16]; 101],
-    section: &mut [u8],
-    records: &[u8],
-    values: &[u8],
-    setting: Setting,
-    writing: bool,
-) -> Answer
-    requires { ⌜ now rows ≡ lines ⌝ }
-    requires { ⌜ (setting .size ≡ length (now section)) × (length (now records) ≤ 49152) ⌝ }
-    requires { ⌜ (writing ≡ true → C.first (C.ofRecords (given (setting .size) (now values) (setting .address) (setting .gp)) 0 [] (recordsOf (now records)))
-        (C.answer 0 (length (recordsOf (now records)))) .number ≡ 0) ⌝ }
+// Record i of the list: its part of the bytes, read.
+fn record_at(records: &[u8], i: usize) -> Record
+    requires { ⌜ (i < length (now records) / 24) × (length (now records) ≤ 49152) ⌝ }
+    ensures { λ r. ⌜ asRecord r ≡ recordOf (piece 24 (now (records .entry)) i) ⌝ }
+{
+    let at = RECORD * i;
+    let end = at + RECORD;
+    steps::read_record(&records[at..end])
+}
+
+// The whole list, each record with the stack that the earlier ones left: the first refusal, or 16 where entries are left.
+fn judge(rows: &[[u8; 16]; 101], records: &[u8], values: &[u8], setting: Setting) -> Answer
+    requires { ⌜ (now rows ≡ lines) × (length (now records) ≤ 49152) ⌝ }
     ensures { λ r. ⌜ Answers r (C.first (C.ofRecords (given (setting .size) (now (values .entry)) (setting .address) (setting .gp)) 0 []
         (recordsOf (now (records .entry)))) (C.answer 0 (length (recordsOf (now (records .entry)))))) ⌝ }
-    ensures { λ _. ⌜ now (section .exit) ≡ passed writing (given (setting .size) (now (values .entry)) (setting .address) (setting .gp)) []
-        (now (section .entry)) (recordsOf (now (records .entry))) ⌝ }
 {
     let count = records.len() / RECORD;
     let mut entries = [0i64; Stack::DEPTH];
     let mut stack = Stack::empty();
     let mut i = 0;
     while i < count {
-        let at = RECORD * i;
-        let end = at + RECORD;
-        let rela = steps::read_record(&records[at..end]);
-        let row = table::row_of(rows, rela.kind);
-        let done = steps::step(row, rela, values, setting, &mut entries, stack);
+        let rela = record_at(records, i);
+        let done = steps::step(rows, rela, values, setting, &mut entries, stack);
         if done.refusal != 0 {
             return Answer::Refused(done.refusal, i as u32);
-        }
-        if writing {
-            writers::write(section, row, rela.kind, rela.offset, done.value);
         }
         let after = done.stack;
         stack = after;
@@ -107,6 +99,32 @@ fn pass(
         return Answer::Refused(16, count as u32);
     }
     Answer::Patched(count as u32)
+}
+
+// Writes the whole list, which was judged before, each record with the section and the stack that the earlier ones left.
+fn write_all(
+    rows: &[[u8; 16]; 101],
+    section: &mut [u8],
+    records: &[u8],
+    values: &[u8],
+    setting: Setting,
+)
+    requires { ⌜ now rows ≡ lines ⌝ }
+    requires { ⌜ (setting .size ≡ length (now section)) × (length (now records) ≤ 49152) ⌝ }
+    requires { ⌜ C.first (C.ofRecords (given (setting .size) (now values) (setting .address) (setting .gp)) 0 [] (recordsOf (now records)))
+        (C.answer 0 (length (recordsOf (now records)))) .number ≡ 0 ⌝ }
+    ensures { λ _. ⌜ now (section .exit) ≡ P.patched (given (setting .size) (now (values .entry)) (setting .address) (setting .gp)) []
+        (now (section .entry)) (recordsOf (now (records .entry))) ⌝ }
+{
+    let count = records.len() / RECORD;
+    let mut entries = [0i64; Stack::DEPTH];
+    let mut stack = Stack::empty();
+    let mut i = 0;
+    while i < count {
+        let rela = record_at(records, i);
+        stack = writers::write(rows, section, rela, values, setting, &mut entries, stack);
+        i += 1;
+    }
 }
 
 // Any lengths, any bytes and any numbers get an answer. A refused list leaves the section exactly as it came.
@@ -129,9 +147,10 @@ pub fn patch(section: &mut [u8], records: &[u8], values: &[u8], address: u64, gp
         address,
         gp,
     };
-    let judged = pass(&rows, section, records, values, setting, false);
+    let judged = judge(&rows, records, values, setting);
     if let Answer::Refused(number, place) = judged {
         return Answer::Refused(number, place);
     }
-    pass(&rows, section, records, values, setting, true)
+    write_all(&rows, section, records, values, setting);
+    judged
 }

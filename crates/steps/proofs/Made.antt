@@ -1,46 +1,45 @@
--- What a step answers, by the kind of the type: how the tests that the code makes come to the record's refusal, the stack after it and the
--- number that it plans to write.
-use Prim.Native.Nat.{ℕ, zero, suc, _%_, _^_, _≤_, _<_}
+-- What a step answers, by the kind of the type: how the tests that the code makes come to the record's refusal and the stack after it.
+use Prim.Native.Nat.{ℕ, _/_, _^_, _≤_, _<_}
 use native.Mathlib.Omega.{arith}
-use mathlib.Core.Bool.{Bool, true, false, cond, not}
-use mathlib.Core.List.{List, [], _∷_, _++_}
+use mathlib.Core.Bool.{Bool, true, false, cond}
+use mathlib.Core.List.{List, _∷_}
 use mathlib.Core.Option.{some}
-use mathlib.Core.Path.{_≡_, refl, sym, ap, ap₂, _∙_, subst⁻¹}
+use mathlib.Core.Path.{_≡_, refl, sym, ap, _∙_, subst⁻¹}
 use borrow.Author.Tests.{lt-ltb, le-ltb}
-use lib.Dec.{ltb, eqb}
-use lib.IntN.{ℤ, pos}
-use lib.ListN.{length, drop}
+use lib.Dec.{ltb}
+use lib.IntN.{ℤ}
+use lib.ListN.{length}
 use lib.Signed.{mag}
-use mir.Syntax.{w64}
-use mir.Val.{SFits}
-use Rattle.meaning.specs.Numbers.{signed, bitsOf, plus}
+use Rattle.meaning.specs.Numbers.{signed, bitsOf}
 use Rattle.meaning.specs.Table.{Formula, Part, Accepted, Operation, Way, Semantics, unnamed, idle, loaders, push, operation, word, bytes, stack, of}
 use Rattle.meaning.specs.Call as M
 use Rattle.meaning.specs.Call.{formula, PC}
-use Rattle.meaning.specs.Stack.{depth, entry}
+use Rattle.meaning.specs.Stack.{depth, entry, after}
 use Rattle.meaning.specs.Checks.{past, absent, outside, unaligned}
-use Rattle.numbers.specs.Laws.{signed-bits, bits-signed}
+use Rattle.numbers.specs.Laws.{signed-bits}
 use Rattle.stack.specs.declared.Stack.{Stack}
 use Rattle.stack.specs.Tops.{tops, Puts, Operates, operationStack, operationRefusal}
 use Rattle.stack.specs.Laws.{length-tops, Took}
-use Rattle.values.specs.declared.Found.{Found}
-use Rattle.values.specs.declared.Found.the-variants.{Value, Refused}
-use Rattle.values.specs.Found.{refusing}
 use Rattle.steps.specs.declared.Done.{Done}
-use Rattle.steps.specs.Refusal.{refusalOf, rangeRefusal, refusal-unnamed, refusal-idle, refusal-loaders, refusal-push, refusal-operation, refusal-word-stack, refusal-word-of, refusal-bytes}
-use Rattle.steps.specs.Step.{given, found, planned, Steps}
+use Rattle.steps.specs.Refusal.{refusalOf, rangeRefusal, valueRefusal, low-symbol, refusal-unnamed, refusal-idle, refusal-loaders, refusal-push, refusal-operation, refusal-word-stack, refusal-word-of, refusal-bytes}
+use Rattle.steps.specs.Step.{given, Steps}
 
 -- ---- what was looked up
 
-found-stops : (p a : Bool) (v n : ℕ) → refusing p 6 (refusing a 7 (Value v)) ≡ Refused n → (0 < n) × ((rest : ℕ) → cond p 6 (cond a 7 rest) ≡ n)
-found-stops true a v n e = let q : 6 ≡ n = cc in (omega arith, λ rest. q)
-found-stops false true v n e = let q : 7 ≡ n = cc in (omega arith, λ rest. q)
-found-stops false false v n e = let q : _≡_ {A = ℕ} 0 1 = cc in absurd (omega arith)
+value-stops : (p a : Bool) (n : ℕ) → n ≡ cond p 6 (cond a 7 0) → (n ≡ 0 → ⊥) → (rest : ℕ) → cond p 6 (cond a 7 rest) ≡ n
+value-stops true a n e z rest = sym e
+value-stops false true n e z rest = sym e
+value-stops false false n e z rest = absurd (z e)
 
-found-goes : (p a : Bool) (v x : ℕ) → refusing p 6 (refusing a 7 (Value v)) ≡ Value x → (v ≡ x) × ((rest : ℕ) → cond p 6 (cond a 7 rest) ≡ rest)
-found-goes true a v x e = let q : _≡_ {A = ℕ} 0 1 = cc in absurd (omega arith)
-found-goes false true v x e = let q : _≡_ {A = ℕ} 0 1 = cc in absurd (omega arith)
-found-goes false false v x e = (cc, λ rest. refl)
+value-goes : (p a : Bool) (n : ℕ) → n ≡ cond p 6 (cond a 7 0) → n ≡ 0 → (p ≡ false) × ((rest : ℕ) → cond p 6 (cond a 7 rest) ≡ rest)
+value-goes true a n e z = absurd (omega arith)
+value-goes false true n e z = absurd (omega arith)
+value-goes false false n e z = (refl, λ rest. refl)
+
+-- a formula's value that is not refused has a row
+pub value-low : (c : M.Setting) (r : M.Record) (f : Formula) (n : ℕ) → n ≡ valueRefusal c r f → n ≡ 0 → r .symbol ≤ length (c .values) / 56
+value-low c r f n e z =
+    low-symbol (c .values) (r .symbol) (value-goes (past c r (some (M.valueOf (M.sumOf f)))) (absent c r (some (M.valueOf (M.sumOf f)))) n e z .0)
 
 -- a test by its outcome
 yes : (b : Bool) (n : ℕ) → b ≡ true → (rest : ℕ) → cond b n rest ≡ n
@@ -59,28 +58,29 @@ module _ (size : ℕ) (values : List ℕ) (address gp : ℕ) (r : M.Record) (s :
   shallow = rw length-tops low
 
   -- a refused record
-  stops : (d : Semantics) (n : ℕ) {done : Done} {kept : Stack} → (done .refusal ≡ n) × (done .stack ≡ kept) → kept .height ≤ 16 → 0 < n →
+  stops : (d : Semantics) (n : ℕ) {done : Done} {kept : Stack} → (done .refusal ≡ n) × (done .stack ≡ kept) → kept .height ≤ 16 → (n ≡ 0 → ⊥) →
       refusalOf c r d (tops s h) ≡ n → Steps c r d (tops s h) s done
-  stops d n {done} (e, k) l z f =
-      let never : done .refusal ≡ 0 → ⊥ = omega arith in
+  stops d n (e, k) l z f =
       record {
         refusal = e ∙ sym f;
-        stack = λ q. absurd (never q);
-        value = λ q. absurd (never q);
+        stack = λ q. absurd (z (sym e ∙ q));
         height = rw k l;
         size = long;
       }
 
-  -- a record that changes neither the stack nor the section's plan
-  pub goes-idle : {done : Done} → done .refusal ≡ 0 → done .stack .height ≡ h → done .value ≡ 0 → Steps c r idle (tops s h) s done
-  goes-idle e k v =
+  -- a record that leaves the stack as it is
+  stays : (d : Semantics) {done : Done} → tops s h ≡ after c r d (tops s h) → done .refusal ≡ refusalOf c r d (tops s h) → done .stack .height ≡ h →
+      Steps c r d (tops s h) s done
+  stays d same e k =
       record {
-        refusal = e ∙ sym (refusal-idle c r (tops s h) shallow);
-        stack = λ q. ap (tops s) k;
-        value = λ q. v;
+        refusal = e;
+        stack = λ q. ap (tops s) k ∙ same;
         height = rw k low;
         size = long;
       }
+
+  pub goes-idle : {done : Done} → done .refusal ≡ 0 → done .stack .height ≡ h → Steps c r idle (tops s h) s done
+  goes-idle e k = stays idle refl (e ∙ sym (refusal-idle c r (tops s h) shallow)) k
 
   pub stops-loaders : {done : Done} {kept : Stack} → (done .refusal ≡ 5) × (done .stack ≡ kept) → kept .height ≤ 16 →
       Steps c r loaders (tops s h) s done
@@ -90,110 +90,83 @@ module _ (size : ℕ) (values : List ℕ) (address gp : ℕ) (r : M.Record) (s :
       Steps c r unnamed (tops s h) s done
   stops-unnamed e l = stops unnamed 4 e l (omega arith) (refusal-unnamed c r (tops s h) shallow)
 
-  -- ---- a formula that is refused
+  -- ---- a formula whose value is refused
 
-  module _ (f : Formula) {n : ℕ} (e : found c r f ≡ Refused n) where
-    looked : (0 < n) × ((rest : ℕ) → cond (past c r (some (M.valueOf (M.sumOf f)))) 6 (cond (absent c r (some (M.valueOf (M.sumOf f)))) 7 rest) ≡ n)
-    looked = found-stops (past c r (some (M.valueOf (M.sumOf f)))) (absent c r (some (M.valueOf (M.sumOf f)))) (formula c r f) n e
+  module _ (f : Formula) {n : ℕ} (e : n ≡ valueRefusal c r f) (z : n ≡ 0 → ⊥) where
+    looked : (rest : ℕ) → cond (past c r (some (M.valueOf (M.sumOf f)))) 6 (cond (absent c r (some (M.valueOf (M.sumOf f)))) 7 rest) ≡ n
+    looked = value-stops (past c r (some (M.valueOf (M.sumOf f)))) (absent c r (some (M.valueOf (M.sumOf f)))) n e z
 
     pub stops-push : {done : Done} {kept : Stack} → (done .refusal ≡ n) × (done .stack ≡ kept) → kept .height ≤ 16 → Steps c r (push f) (tops s h) s done
-    stops-push is l = stops (push f) n is l (looked .0) (refusal-push c r (tops s h) shallow f ∙ looked .1 _)
+    stops-push is l = stops (push f) n is l z (refusal-push c r (tops s h) shallow f ∙ looked _)
 
     pub stops-word : (parts : List Part) (range : Accepted) {done : Done} {kept : Stack} → (done .refusal ≡ n) × (done .stack ≡ kept) →
         kept .height ≤ 16 → Steps c r (word (of f) parts range) (tops s h) s done
     stops-word parts range is l =
-        stops (word (of f) parts range) n is l (looked .0) (refusal-word-of c r (tops s h) shallow f parts range ∙ looked .1 _)
+        stops (word (of f) parts range) n is l z (refusal-word-of c r (tops s h) shallow f parts range ∙ looked _)
 
     pub stops-bytes : (way : Way) (k : ℕ) {done : Done} {kept : Stack} → (done .refusal ≡ n) × (done .stack ≡ kept) → kept .height ≤ 16 →
         Steps c r (bytes way k f) (tops s h) s done
-    stops-bytes way k is l = stops (bytes way k f) n is l (looked .0) (refusal-bytes c r (tops s h) shallow way k f ∙ looked .1 _)
+    stops-bytes way k is l = stops (bytes way k f) n is l z (refusal-bytes c r (tops s h) shallow way k f ∙ looked _)
 
-  -- ---- a push
+  -- ---- a formula whose value is not
 
-  pub goes-push : (f : Formula) (x : ℕ) (z : ℤ) (refusal : ℕ) (after : Stack) (s′ : List ℤ) → found c r f ≡ Value x → z ≡ signed 64 x →
-      Puts s h z refusal s′ (after .height) → Steps c r (push f) (tops s h) s′ (record { refusal = refusal; stack = after; value = 0 })
-  goes-push f x z refusal after s′ e k puts =
-      let looked = found-goes (past c r (some (M.valueOf (M.sumOf f)))) (absent c r (some (M.valueOf (M.sumOf f)))) (formula c r f) x e in
-      record {
-        refusal = puts .answers ∙ sym (refusal-push c r (tops s h) shallow f ∙ looked .1 _);
-        stack = λ q. puts .becomes q ∙ ap (λ (y : ℤ). y ∷ tops s h) (k ∙ ap (signed 64) (sym (looked .0)));
-        value = λ q. refl;
-        height = puts .within;
-        size = puts .long;
-      }
+  module _ (f : Formula) {n : ℕ} (e : n ≡ valueRefusal c r f) (z : n ≡ 0) where
+    found : (rest : ℕ) → cond (past c r (some (M.valueOf (M.sumOf f)))) 6 (cond (absent c r (some (M.valueOf (M.sumOf f)))) 7 rest) ≡ rest
+    found = value-goes (past c r (some (M.valueOf (M.sumOf f)))) (absent c r (some (M.valueOf (M.sumOf f)))) n e z .1
+
+    pub goes-push : (x : ℕ) (y : ℤ) (refusal : ℕ) (above : Stack) (s′ : List ℤ) → x ≡ formula c r f → y ≡ signed 64 x →
+        Puts s h y refusal s′ (above .height) → Steps c r (push f) (tops s h) s′ (record { refusal = refusal; stack = above })
+    goes-push x y refusal above s′ v k puts =
+        record {
+          refusal = puts .answers ∙ sym (refusal-push c r (tops s h) shallow f ∙ found _);
+          stack = λ q. puts .becomes q ∙ ap (λ (i : ℤ). i ∷ tops s h) (k ∙ ap (signed 64) v);
+          height = puts .within;
+          size = puts .long;
+        }
+
+    module _ (way : Way) (m : ℕ) where
+      data-refusal : refusalOf c r (bytes way m f) (tops s h) ≡ cond (outside size (r .offset) m) 8 0
+      data-refusal = refusal-bytes c r (tops s h) shallow way m f ∙ found _
+
+      pub outside-bytes : outside size (r .offset) m ≡ true → {done : Done} {kept : Stack} → (done .refusal ≡ 8) × (done .stack ≡ kept) →
+          kept .height ≤ 16 → Steps c r (bytes way m f) (tops s h) s done
+      outside-bytes o is l = stops (bytes way m f) 8 is l (omega arith) (data-refusal ∙ yes _ 8 o 0)
+
+      pub goes-bytes : outside size (r .offset) m ≡ false → {done : Done} → done .refusal ≡ 0 → done .stack .height ≡ h →
+          Steps c r (bytes way m f) (tops s h) s done
+      goes-bytes o p k = stays (bytes way m f) refl (p ∙ sym (data-refusal ∙ no _ 8 o 0)) k
+
+    module _ (parts : List Part) (range : Accepted) where
+      word-refusal : refusalOf c r (word (of f) parts range) (tops s h) ≡
+          cond (outside size (r .offset) 4) 8
+          (cond (unaligned (PC c r)) 9 (rangeRefusal range (signed 64 (formula c r f))))
+      word-refusal = refusal-word-of c r (tops s h) shallow f parts range ∙ found _
+
+      pub outside-word : outside size (r .offset) 4 ≡ true → {done : Done} {kept : Stack} → (done .refusal ≡ 8) × (done .stack ≡ kept) →
+          kept .height ≤ 16 → Steps c r (word (of f) parts range) (tops s h) s done
+      outside-word o is l = stops (word (of f) parts range) 8 is l (omega arith) (word-refusal ∙ yes _ 8 o _)
+
+      pub unaligned-word : outside size (r .offset) 4 ≡ false → unaligned (PC c r) ≡ true → {done : Done} {kept : Stack} →
+          (done .refusal ≡ 9) × (done .stack ≡ kept) → kept .height ≤ 16 → Steps c r (word (of f) parts range) (tops s h) s done
+      unaligned-word o u is l = stops (word (of f) parts range) 9 is l (omega arith) (word-refusal ∙ no _ 8 o _ ∙ yes _ 9 u _)
+
+      pub goes-word : outside size (r .offset) 4 ≡ false → unaligned (PC c r) ≡ false → {done : Done} →
+          done .refusal ≡ rangeRefusal range (signed 64 (formula c r f)) → done .stack .height ≡ h →
+          Steps c r (word (of f) parts range) (tops s h) s done
+      goes-word o u p k = stays (word (of f) parts range) refl (p ∙ sym (word-refusal ∙ no _ 8 o _ ∙ no _ 9 u _)) k
 
   -- ---- an operation
 
-  pub goes-operation : (o o′ : Operation) (refusal : ℕ) (after : Stack) (s′ : List ℤ) → o′ ≡ o → Operates o′ (tops s h) refusal s′ (after .height) →
-      Steps c r (operation o) (tops s h) s′ (record { refusal = refusal; stack = after; value = 0 })
+  pub goes-operation : (o o′ : Operation) (refusal : ℕ) (above : Stack) (s′ : List ℤ) → o′ ≡ o → Operates o′ (tops s h) refusal s′ (above .height) →
+      Steps c r (operation o) (tops s h) s′ (record { refusal = refusal; stack = above })
   unfolding operationStack operationRefusal
-  goes-operation o o′ refusal after s′ e operates =
+  goes-operation o o′ refusal above s′ e operates =
       record {
         refusal = operates .answers ∙ ap (λ (x : Operation). operationRefusal x (tops s h)) e ∙ sym (refusal-operation c r (tops s h) shallow o);
         stack = λ q. operates .becomes q ∙ ap (λ (x : Operation). operationStack x (tops s h)) e;
-        value = λ q. refl;
         height = operates .within;
         size = operates .long;
       }
-
-  -- ---- data
-
-  module _ (way : Way) (n : ℕ) (f : Formula) (x : ℕ) (e : found c r f ≡ Value x) where
-    data-looked : (formula c r f ≡ x) × ((rest : ℕ) → cond (past c r (some (M.valueOf (M.sumOf f)))) 6 (cond (absent c r (some (M.valueOf (M.sumOf f)))) 7 rest) ≡ rest)
-    data-looked = found-goes (past c r (some (M.valueOf (M.sumOf f)))) (absent c r (some (M.valueOf (M.sumOf f)))) (formula c r f) x e
-
-    data-refusal : refusalOf c r (bytes way n f) (tops s h) ≡ cond (outside size (r .offset) n) 8 0
-    data-refusal = refusal-bytes c r (tops s h) shallow way n f ∙ data-looked .1 _
-
-    pub outside-bytes : outside size (r .offset) n ≡ true → {done : Done} {kept : Stack} → (done .refusal ≡ 8) × (done .stack ≡ kept) →
-        kept .height ≤ 16 → Steps c r (bytes way n f) (tops s h) s done
-    outside-bytes o is l = stops (bytes way n f) 8 is l (omega arith) (data-refusal ∙ yes _ 8 o 0)
-
-    pub goes-bytes : outside size (r .offset) n ≡ false → {done : Done} → done .refusal ≡ 0 → done .stack .height ≡ h → done .value ≡ x →
-        Steps c r (bytes way n f) (tops s h) s done
-    goes-bytes o p k v =
-        record {
-          refusal = p ∙ sym (data-refusal ∙ no _ 8 o 0);
-          stack = λ q. ap (tops s) k;
-          value = λ q. v ∙ sym (data-looked .0);
-          height = rw k low;
-          size = long;
-        }
-
-  -- ---- a word of a formula
-
-  module _ (f : Formula) (parts : List Part) (range : Accepted) (x : ℕ) (e : found c r f ≡ Value x) (fits : x < 2 ^ 64) where
-    word-looked : (formula c r f ≡ x) × ((rest : ℕ) → cond (past c r (some (M.valueOf (M.sumOf f)))) 6 (cond (absent c r (some (M.valueOf (M.sumOf f)))) 7 rest) ≡ rest)
-    word-looked = found-goes (past c r (some (M.valueOf (M.sumOf f)))) (absent c r (some (M.valueOf (M.sumOf f)))) (formula c r f) x e
-
-    word-refusal : refusalOf c r (word (of f) parts range) (tops s h) ≡
-        cond (outside size (r .offset) 4) 8
-        (cond (unaligned (PC c r)) 9 (rangeRefusal range (signed 64 x)))
-    word-refusal =
-        refusal-word-of c r (tops s h) shallow f parts range
-        ∙ word-looked .1 _
-        ∙ ap (λ (y : ℕ). cond (outside size (r .offset) 4) 8
-        (cond (unaligned (PC c r)) 9 (rangeRefusal range (signed 64 y)))) (word-looked .0)
-
-    pub outside-word : outside size (r .offset) 4 ≡ true → {done : Done} {kept : Stack} → (done .refusal ≡ 8) × (done .stack ≡ kept) →
-        kept .height ≤ 16 → Steps c r (word (of f) parts range) (tops s h) s done
-    outside-word o is l = stops (word (of f) parts range) 8 is l (omega arith) (word-refusal ∙ yes _ 8 o _)
-
-    pub unaligned-word : outside size (r .offset) 4 ≡ false → unaligned (PC c r) ≡ true → {done : Done} {kept : Stack} →
-        (done .refusal ≡ 9) × (done .stack ≡ kept) → kept .height ≤ 16 → Steps c r (word (of f) parts range) (tops s h) s done
-    unaligned-word o u is l = stops (word (of f) parts range) 9 is l (omega arith) (word-refusal ∙ no _ 8 o _ ∙ yes _ 9 u _)
-
-    pub goes-word : outside size (r .offset) 4 ≡ false → unaligned (PC c r) ≡ false → {done : Done} →
-        done .refusal ≡ rangeRefusal range (signed 64 x) → done .stack .height ≡ h → done .value ≡ x →
-        Steps c r (word (of f) parts range) (tops s h) s done
-    goes-word o u p k v =
-        record {
-          refusal = p ∙ sym (word-refusal ∙ no _ 8 o _ ∙ no _ 9 u _);
-          stack = λ q. ap (tops s) k;
-          value = λ q. v ∙ sym (ap (λ (y : ℕ). bitsOf 64 (signed 64 y)) (word-looked .0) ∙ bits-signed x fits);
-          height = rw k low;
-          size = long;
-        }
 
   -- ---- a word of the stack
 
@@ -221,9 +194,8 @@ module _ (size : ℕ) (values : List ℕ) (address gp : ℕ) (r : M.Record) (s :
           stops (word stack parts range) 10 is l (omega arith) (stack-refusal ∙ no _ 8 o _ ∙ no _ 9 u _ ∙ yes _ 10 none _)
 
       pub goes-stack : unaligned (PC c r) ≡ false → (z : ℤ) (below : Stack) → Took s h z below → (x : ℕ) → x ≡ bitsOf 64 z → mag z < 2 ^ 63 → {done : Done} →
-          done .refusal ≡ rangeRefusal range (signed 64 x) →
-          done .stack ≡ below → done .value ≡ x → Steps c r (word stack parts range) (tops s h) s done
-      goes-stack u z below took x k m {done} p b v =
+          done .refusal ≡ rangeRefusal range (signed 64 x) → done .stack ≡ below → Steps c r (word stack parts range) (tops s h) s done
+      goes-stack u z below took x k m p b =
           let back : signed 64 x ≡ z = ap (signed 64) k ∙ signed-bits z (record { sfits = m }) in
           let one : ltb (length (tops s h)) 1 ≡ false = le-ltb (length (tops s h)) 1 (rw length-tops (omega (arith, took .1))) in
           let top : entry (tops s h) 0 ≡ z = rw (took .0) in
@@ -231,7 +203,6 @@ module _ (size : ℕ) (values : List ℕ) (address gp : ℕ) (r : M.Record) (s :
             refusal = p ∙ sym (stack-refusal ∙ no _ 8 o _ ∙ no _ 9 u _ ∙ no _ 10 one _
                 ∙ ap (rangeRefusal range) (top ∙ sym back));
             stack = λ q. ap (λ (y : Stack). tops s (y .height)) b ∙ sym (rw (took .0));
-            value = λ q. v ∙ k ∙ ap (bitsOf 64) (sym top);
             height = rw b (omega (arith, took .1));
             size = long;
           }

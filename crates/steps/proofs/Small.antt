@@ -1,5 +1,5 @@
 -- Laws of the small tests, over plain numbers.
-use Prim.Native.Nat.{ℕ, zero, suc, _+_, _-_, _*_, _/_, _%_, _^_, _≤_, _<_}
+use Prim.Native.Nat.{ℕ, zero, suc, _+_, _-_, _/_, _%_, _^_, _≤_, _<_}
 use native.Mathlib.Nat.{not-suc-le-zero, not-le-of-lt}
 use native.Mathlib.Omega.{arith}
 use mathlib.Core.Bool.{Bool, true, false, cond, not, _&&_, false≢true}
@@ -13,20 +13,20 @@ use mir.Syntax.{w64}
 use mir.Val.{toZ, ofZ}
 use mir.ValLaws.{toZ-ofZ}
 use Rattle.meaning.specs.Numbers.{pieces}
-use Rattle.meaning.specs.Table.{Sum, only, with-A, with-GP, Formula, whole, _-PC, pages, far, Semantics, semantics}
+use Rattle.meaning.specs.Table.{Sum, only, with-A, with-GP, Formula, whole, _-PC, pages, far, Operation, Semantics, semantics}
 use Rattle.meaning.specs.Call as M
 use Rattle.meaning.specs.Call.{u64, recordOf}
 use Rattle.meaning.specs.Checks.{outside, unaligned}
+use Rattle.stack.specs.Tops.{operationOf, Operates}
 use Rattle.table.specs.declared.Row.{Row}
 use Rattle.table.specs.Columns.{columns, rangeOf, formulaOf, sumNumber, formulaNumber}
 use Rattle.meaning.proofs.Sound.{sound}
 use Rattle.table.specs.Look.{both, sound-at, fits-at}
 use Rattle.table.specs.Laws.{class-bytes}
 use Rattle.table.specs.Words.{beyondSigned, beyondUnsigned, no4, range-any, range-signed, range-unsigned, range-multiple, bits-checked}
-use Rattle.values.specs.declared.Found.{Found}
-use Rattle.values.specs.Found.{refusing, thenValue, foundAt, sumBy, formulaBy}
+use Rattle.values.specs.Values.{wordAt, sumBy, formulaBy}
 use Rattle.steps.specs.Refusal.{rangeRefusal}
-use Rattle.steps.specs.Step.{asRecord, given, found, At}
+use Rattle.steps.specs.Step.{asRecord, given}
 
 -- a record out of its three words
 pub record-is : (b : List ℕ) (offset info addend : ℕ) → offset ≡ u64 b 0 → info ≡ u64 b 8 → addend ≡ u64 b 16 →
@@ -117,10 +117,6 @@ first-passes false n k rest e h q = q
 
 -- ---- the formula of a type, by its row
 
-through : (p : Bool) (n : ℕ) (f : ℕ → ℕ) (rest : Found) → thenValue f (refusing p n rest) ≡ refusing p n (thenValue f rest)
-through true n f rest = refl
-through false n f rest = refl
-
 module _ (size : ℕ) (values : List ℕ) (address gp : ℕ) (r : M.Record) where
   sum-by : (x : Sum) → sumBy (sumNumber x) (r .addend) gp (M.valueIn (M.valueOf x) (M.row (given size values address gp) r)) ≡
       M.sum (given size values address gp) r x
@@ -137,24 +133,14 @@ module _ (size : ℕ) (values : List ℕ) (address gp : ℕ) (r : M.Record) wher
   formula-by (pages x) pc e = rw (e, sum-by x)
   formula-by (far x) pc e = rw (e, sum-by x)
 
-  found-by : (f : Formula) (pc : ℕ) → pc ≡ M.PC (given size values address gp) r →
-      thenValue (λ x. formulaBy (formulaNumber f) pc (sumBy (sumNumber (M.sumOf f)) (r .addend) gp x))
-      (foundAt (pieces 56 values) (r .symbol) (M.bit (M.valueOf (M.sumOf f)))) ≡
-      found (given size values address gp) r f
-  found-by f pc e = simp (through, formula-by f pc e)
-
-  pub found-in : (d : Semantics) (row : Row) → row ≡ columns d → (pc : ℕ) → pc ≡ M.PC (given size values address gp) r →
-      thenValue (λ x. formulaBy (row .formula) pc (sumBy (row .sum) (r .addend) gp x)) (foundAt (pieces 56 values) (r .symbol) (row .value)) ≡
-      found (given size values address gp) r (formulaOf d)
-  found-in d row is pc e =
-      subst⁻¹ (λ (x : Row).
-      thenValue (λ y. formulaBy (x .formula) pc (sumBy (x .sum) (r .addend) gp y)) (foundAt (pieces 56 values) (r .symbol) (x .value)) ≡
-      found (given size values address gp) r (formulaOf d)) is (found-by (formulaOf d) pc e)
+  pub formula-in : (d : Semantics) (row : Row) → row ≡ columns d → (pc : ℕ) → pc ≡ M.PC (given size values address gp) r →
+      formulaBy (row .formula) pc (sumBy (row .sum) (r .addend) gp (wordAt (pieces 56 values) (r .symbol) (row .value))) ≡
+      M.formula (given size values address gp) r (formulaOf d)
+  formula-in d row is pc e =
+      subst⁻¹ (λ (x : Row). formulaBy (x .formula) pc (sumBy (x .sum) (r .addend) gp (wordAt (pieces 56 values) (r .symbol) (x .value))) ≡
+      M.formula (given size values address gp) r (formulaOf d)) is (formula-by (formulaOf d) pc e)
 
 -- ---- places
-
-pub at-class : {row : Row} {kind class height : ℕ} → At row kind class height → columns (semantics kind) .class ≡ class
-at-class a = ap (λ (x : Row). x .class) (sym (a .row-is)) ∙ a .class-is
 
 pub unaligned-yes : (pc q : ℕ) → pc ≡ q → (pc % 4 ≡ 0 → ⊥) → unaligned q ≡ true
 unaligned-yes pc q e h = rw (← e, ne-eqb (pc % 4) 0 h)
@@ -163,16 +149,13 @@ pub unaligned-no : (pc q : ℕ) → pc ≡ q → pc % 4 ≡ 0 → unaligned q �
 unaligned-no pc q e h = rw (← e, eq-eqb (pc % 4) 0 h)
 
 -- a data type writes at least one byte
-pub count-is : {row : Row} {kind class height : ℕ} → At row kind class height → row .count ≡ columns (semantics kind) .count
-count-is a = ap (λ (x : Row). x .count) (a .row-is)
-
-pub count-some : {row : Row} {kind height : ℕ} → At row kind 7 height → 1 ≤ row .count
+pub count-some : (row : Row) (kind : ℕ) → row ≡ columns (semantics kind) → columns (semantics kind) .class ≡ 7 → 1 ≤ row .count
 unfolding sound
-count-some {row} {kind} a =
+count-some row kind is e =
     let n : ℕ = columns (semantics kind) .count in
-    let t : T (leb 1 n && leb n 8) = subst (λ (d : Semantics). T (sound d)) (class-bytes (semantics kind) (at-class a)) (sound-at kind) in
+    let t : T (leb 1 n && leb n 8) = subst (λ (d : Semantics). T (sound d)) (class-bytes (semantics kind) e) (sound-at kind) in
     let p : 1 ≤ n = leb→le 1 n (both (leb 1 n) (leb n 8) t .0) in
-    rw (count-is a) p
+    rw is p
 
 -- a class that is none of 1 to 7 is 0
 pub no-class : (n : ℕ) → n ≤ 7 → (n ≡ 1 → ⊥) → (n ≡ 2 → ⊥) → (n ≡ 3 → ⊥) → (n ≡ 4 → ⊥) → (n ≡ 5 → ⊥) → (n ≡ 6 → ⊥) → (n ≡ 7 → ⊥) → n ≡ 0
@@ -188,3 +171,22 @@ no-class (suc (suc (suc (suc (suc (suc (suc (suc n)))))))) l a b c d e f g = abs
 
 pub class-fits : {row : Row} (t : ℕ) → row ≡ columns (semantics t) → row .class ≤ 7
 class-fits t is = subst⁻¹ (λ (x : Row). x .class ≤ 7) is (fits-at t .class)
+
+-- ---- operations by their numbers
+
+-- a number that is none of 0 to 7 is if-else's, as 8 is
+pub last-operation : (n : ℕ) → (n ≡ 0 → ⊥) → (n ≡ 1 → ⊥) → (n ≡ 2 → ⊥) → (n ≡ 3 → ⊥) → (n ≡ 4 → ⊥) → (n ≡ 5 → ⊥) → (n ≡ 6 → ⊥) → (n ≡ 7 → ⊥) →
+    operationOf 8 ≡ operationOf n
+last-operation zero a b c d e f g h = absurd (a refl)
+last-operation (suc zero) a b c d e f g h = absurd (b refl)
+last-operation (suc (suc zero)) a b c d e f g h = absurd (c refl)
+last-operation (suc (suc (suc zero))) a b c d e f g h = absurd (d refl)
+last-operation (suc (suc (suc (suc zero)))) a b c d e f g h = absurd (e refl)
+last-operation (suc (suc (suc (suc (suc zero))))) a b c d e f g h = absurd (f refl)
+last-operation (suc (suc (suc (suc (suc (suc zero)))))) a b c d e f g h = absurd (g refl)
+last-operation (suc (suc (suc (suc (suc (suc (suc zero))))))) a b c d e f g h = absurd (h refl)
+last-operation (suc (suc (suc (suc (suc (suc (suc (suc n)))))))) a b c d e f g h = refl
+
+pub operating : {o o′ : Operation} {st : List ℤ} {refusal : ℕ} {entries : List ℤ} {height : ℕ} → o ≡ o′ → Operates o st refusal entries height →
+    Operates o′ st refusal entries height
+operating {st = st} {refusal} {entries} {height} e p = subst (λ (x : Operation). Operates x st refusal entries height) e p

@@ -1,30 +1,39 @@
 -- The refusal of one record, as a number: 0 where every check of it passes. Its place is the record's, whatever its number.
 -- For each kind of type: the checks that can fail, in their order, the others passing by themselves.
-use Prim.Native.Nat.{ℕ, zero, suc, _-_, _<_, _≤_}
+use Prim.Native.Nat.{ℕ, suc, _-_, _/_, _≤_}
 use native.Mathlib.Nat.{ne-of-gt}
 use native.Mathlib.Omega.{arith}
 use mathlib.Core.Bool.{Bool, true, false, cond}
 use mathlib.Core.List.{List, [], _∷_, _++_}
 use mathlib.Core.Option.{some}
-use mathlib.Core.Path.{_≡_, refl, sym, ap, _∙_}
-use borrow.Author.Tests.{ne-eqb, le-ltb}
+use mathlib.Core.Path.{_≡_, refl}
+use borrow.Author.Tests.{ne-eqb, le-ltb, ltb-false}
 use lib.Dec.{eqb, ltb, leb·suc-zero}
 use lib.IntN.{ℤ}
 use lib.ListN.{length, drop, length-drop}
 use Rattle.meaning.specs.Call.{Setting, Record, PC, valueOf, sumOf, formula}
-use Rattle.meaning.specs.Numbers.{signed}
+use Rattle.meaning.specs.Numbers.{signed, pieces}
 use Rattle.meaning.specs.Stack.{Stack, depth, entry, isZero, takes, pushes}
-use Rattle.meaning.specs.Table.{Semantics, unnamed, idle, loaders, push, operation, word, bytes, Source, stack, of, Formula, Part, Accepted, Way}
+use Rattle.meaning.specs.Table.{Semantics, unnamed, idle, loaders, push, operation, word, bytes, stack, of, Formula, Part, Accepted, Way}
 use Rattle.meaning.specs.Table.{Operation, dup, assert, not, sub, sl, sr, add, and, if-else}
 use Rattle.meaning.specs.Checks.{Answer, answer, Check, check, first, ofRecord, past, absent, outside, unaligned, beyond, notMultiple, notCount, refuses}
 use Rattle.lemmas.specs.First.{Every, Numbered}
+use Rattle.lemmas.specs.Pieces.{length-cut}
 
 abbrev pub refusalOf : Setting → Record → Semantics → Stack → ℕ
 refusalOf c r does st = first (ofRecord c 0 r does st) (answer 0 0) .number
 
+-- Refusals 6 and 7 of the value that a formula uses.
+abbrev pub valueRefusal : Setting → Record → Formula → ℕ
+valueRefusal c r f = cond (past c r (some (valueOf (sumOf f)))) 6 (cond (absent c r (some (valueOf (sumOf f)))) 7 0)
+
 -- Refusals 14 and 15 of a value.
 abbrev pub rangeRefusal : Accepted → ℤ → ℕ
 rangeRefusal range z = cond (beyond range z) 14 (cond (notMultiple range z) 15 0)
+
+-- A symbol that is not past the rows.
+pub low-symbol : (values : List ℕ) (symbol : ℕ) → ltb (length (pieces 56 values)) symbol ≡ false → symbol ≤ length values / 56
+low-symbol values symbol e = ltb-false (length values / 56) symbol (rw length-cut at e)
 
 -- ---- the place
 

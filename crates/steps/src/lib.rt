@@ -1,23 +1,24 @@
-// One record of the list: its checks in their order, the stack after it, and the number that it plans to write.
+// One record of the list judged: its checks in their order, and the stack after it.
+// A type's row is looked up where its columns are needed, by each function for itself: then no more of it than that is read.
+use stack::Operated;
 use stack::Stack;
 use stack::Taken;
 use table::Row;
-use values::Found;
 ghost use mathlib.Core.Path.{_≡_};
 ghost use mathlib.Core.Bool.{cond};
 ghost use mathlib.Core.List.{List};
-ghost use Prim.Native.Nat.{ℕ, _≤_, _<_};
+ghost use Prim.Native.Nat.{ℕ, _/_, _≤_, _<_};
 ghost use lib.IntN.{ℤ};
 ghost use lib.ListN.{length};
 ghost use Rattle.meaning.specs.Table.{semantics};
 ghost use Rattle.meaning.specs.Numbers.{signed};
 ghost use Rattle.meaning.specs.Call as M;
 ghost use Rattle.meaning.specs.Checks as C;
-ghost use Rattle.stack.specs.Tops.{tops};
+ghost use Rattle.stack.specs.Tops.{tops, operationOf, Operates};
 ghost use Rattle.table.specs.Words.{beyondSigned, beyondUnsigned, no4};
 ghost use Rattle.table.specs.Columns.{columns, lines, rangeOf, formulaOf};
-ghost use Rattle.steps.specs.Refusal.{rangeRefusal};
-ghost use Rattle.steps.specs.Step.{asRecord, given, found, At, Steps};
+ghost use Rattle.steps.specs.Refusal.{rangeRefusal, valueRefusal};
+ghost use Rattle.steps.specs.Step.{asRecord, given, At, Steps};
 
 // A record is 24 bytes: offset (u64), info (u64), addend (i64). Type is the low 32 bits of info, symbol index the high 32.
 pub struct Record {
@@ -34,11 +35,10 @@ pub struct Setting {
     pub gp: u64,
 }
 
-// What a record's step answers: a number of refusal or 0, the stack after it, and the number that it plans to write.
+// What a record's step answers: a number of refusal or 0, and the stack after it.
 pub struct Done {
     pub refusal: u32,
     pub stack: Stack,
-    pub value: u64,
 }
 
 pub fn read_record(bytes: &[u8]) -> Record
@@ -115,11 +115,22 @@ fn range_refusal(row: Row, kind: u64, x: u64) -> u32
     }
 }
 
-// The formula of a record's type: its value, or refusal 6 or 7.
-fn evaluate(row: Row, rela: Record, values: &[u8], setting: Setting) -> Found
-    requires { ⌜ row ≡ columns (semantics (rela .kind)) ⌝ }
-    ensures { λ r. ⌜ r ≡ found (given (setting .size) (now (values .entry)) (setting .address) (setting .gp)) (asRecord rela) (formulaOf (semantics (rela .kind))) ⌝ }
+// Refusal 6 or 7 of the value that a record's formula uses, or 0.
+fn value_refusal(rows: &[[u8; 16]; 101], rela: Record, values: &[u8]) -> u32
+    requires { ⌜ now rows ≡ lines ⌝ }
+    ensures { λ r. ⌜ r ≡ valueRefusal (given 0 (now (values .entry)) 0 0) (asRecord rela) (formulaOf (semantics (rela .kind))) ⌝ }
 {
+    let row = table::row_of(rows, rela.kind);
+    values::refusal(values, rela.symbol, row.value)
+}
+
+// What the formula of a record's type gives.
+pub fn evaluate(rows: &[[u8; 16]; 101], rela: Record, values: &[u8], setting: Setting) -> u64
+    requires { ⌜ now rows ≡ lines ⌝ }
+    requires { ⌜ rela .symbol ≤ length (now values) / 56 ⌝ }
+    ensures { λ r. ⌜ r ≡ M.formula (given (setting .size) (now (values .entry)) (setting .address) (setting .gp)) (asRecord rela) (formulaOf (semantics (rela .kind))) ⌝ }
+{
+    let row = table::row_of(rows, rela.kind);
     let pc = numbers::plus(setting.address, rela.offset);
     values::evaluate(
         values,
@@ -136,67 +147,87 @@ fn evaluate(row: Row, rela: Record, values: &[u8], setting: Setting) -> Found
 fn refused(refusal: u32, stack: Stack) -> Done
     ensures { λ r. ⌜ (r .refusal ≡ refusal) × (r .stack ≡ stack) ⌝ }
 {
-    Done {
-        refusal,
-        stack,
-        value: 0,
-    }
+    Done { refusal, stack }
 }
 
 // 22, 23, 25 to 29: push a formula's value.
 fn push(
-    row: Row,
+    rows: &[[u8; 16]; 101],
     rela: Record,
     values: &[u8],
     setting: Setting,
     entries: &mut [i64; Stack::DEPTH],
     stack: Stack,
 ) -> Done
-    requires { ⌜ At row (rela .kind) 3 (stack .height) ⌝ }
+    requires { ⌜ now rows ≡ lines ⌝ }
+    requires { ⌜ At (rela .kind) 3 (stack .height) ⌝ }
     requires { ⌜ length (now entries) ≡ 16 ⌝ }
     ensures { λ r. ⌜ Steps (given (setting .size) (now (values .entry)) (setting .address) (setting .gp)) (asRecord rela) (semantics (rela .kind))
         (tops (now (entries .entry)) (stack .height)) (now (entries .exit)) r ⌝ }
 {
-    let looked = evaluate(row, rela, values, setting);
-    match looked {
-        Found::Refused(refusal) => refused(refusal, stack),
-        Found::Value(x) => {
-            let put = stack::put(entries, stack, numbers::signed(x));
-            let after = put.stack;
-            Done {
-                refusal: put.refusal,
-                stack: after,
-                value: 0,
-            }
-        }
+    let refusal = value_refusal(rows, rela, values);
+    if refusal != 0 {
+        return refused(refusal, stack);
+    }
+    let x = evaluate(rows, rela, values, setting);
+    let put = stack::put(entries, stack, numbers::signed(x));
+    let after = put.stack;
+    Done {
+        refusal: put.refusal,
+        stack: after,
+    }
+}
+
+// An operation by its number. With each number written out the compiler makes a path of its own of each.
+fn operate(operation: u32, entries: &mut [i64; Stack::DEPTH], stack: Stack) -> Operated
+    requires { ⌜ (stack .height ≤ 16) × (length (now entries) ≡ 16) ⌝ }
+    ensures { λ r. ⌜ Operates (operationOf operation) (tops (now (entries .entry)) (stack .height)) (r .refusal) (now (entries .exit)) (r .stack .height) ⌝ }
+{
+    match operation {
+        0 => stack::operate(0, entries, stack),
+        1 => stack::operate(1, entries, stack),
+        2 => stack::operate(2, entries, stack),
+        3 => stack::operate(3, entries, stack),
+        4 => stack::operate(4, entries, stack),
+        5 => stack::operate(5, entries, stack),
+        6 => stack::operate(6, entries, stack),
+        7 => stack::operate(7, entries, stack),
+        _ => stack::operate(8, entries, stack),
     }
 }
 
 // 24, 30 to 37: an operation on the stack's entries.
-fn operate(row: Row, kind: u64, entries: &mut [i64; Stack::DEPTH], stack: Stack) -> Done
-    requires { ⌜ At row kind 4 (stack .height) ⌝ }
+fn operation(
+    rows: &[[u8; 16]; 101],
+    kind: u64,
+    entries: &mut [i64; Stack::DEPTH],
+    stack: Stack,
+) -> Done
+    requires { ⌜ now rows ≡ lines ⌝ }
+    requires { ⌜ At kind 4 (stack .height) ⌝ }
     requires { ⌜ length (now entries) ≡ 16 ⌝ }
     ensures { λ r. ⌜ ((size : ℕ) (values : List ℕ) (address gp : ℕ) (rela : M.Record) → Steps (given size values address gp) rela (semantics kind)
         (tops (now (entries .entry)) (stack .height)) (now (entries .exit)) r) ⌝ }
 {
-    let operated = stack::operate(row.operation, entries, stack);
+    let row = table::row_of(rows, kind);
+    let operated = operate(row.operation, entries, stack);
     let after = operated.stack;
     Done {
         refusal: operated.refusal,
         stack: after,
-        value: 0,
     }
 }
 
 // 38 to 46: a word whose value is taken from the stack.
 fn stack_word(
-    row: Row,
+    rows: &[[u8; 16]; 101],
     rela: Record,
     setting: Setting,
     entries: &[i64; Stack::DEPTH],
     stack: Stack,
 ) -> Done
-    requires { ⌜ At row (rela .kind) 5 (stack .height) ⌝ }
+    requires { ⌜ now rows ≡ lines ⌝ }
+    requires { ⌜ At (rela .kind) 5 (stack .height) ⌝ }
     requires { ⌜ length (now entries) ≡ 16 ⌝ }
     ensures { λ r. ⌜ ((values : List ℕ) → Steps (given (setting .size) values (setting .address) (setting .gp)) (asRecord rela) (semantics (rela .kind))
         (tops (now (entries .entry)) (stack .height)) (now (entries .entry)) r) ⌝ }
@@ -210,88 +241,83 @@ fn stack_word(
     let Taken::Value(z, below) = stack.take(entries) else {
         return refused(10, stack);
     };
-    let x = numbers::bits(z);
+    let row = table::row_of(rows, rela.kind);
     Done {
-        refusal: range_refusal(row, rela.kind, x),
+        refusal: range_refusal(row, rela.kind, numbers::bits(z)),
         stack: below,
-        value: x,
     }
 }
 
-// 64 to 98: a word whose value is a formula's.
-fn word(row: Row, rela: Record, values: &[u8], setting: Setting, stack: Stack) -> Done
-    requires { ⌜ At row (rela .kind) 6 (stack .height) ⌝ }
+// 64 to 98: a word whose value is a formula's. Only a range asks for the value.
+fn word(rows: &[[u8; 16]; 101], rela: Record, values: &[u8], setting: Setting, stack: Stack) -> Done
+    requires { ⌜ now rows ≡ lines ⌝ }
+    requires { ⌜ At (rela .kind) 6 (stack .height) ⌝ }
     ensures { λ r. ⌜ ((entries : List ℤ) → length entries ≡ 16 → Steps (given (setting .size) (now (values .entry)) (setting .address) (setting .gp))
         (asRecord rela) (semantics (rela .kind)) (tops entries (stack .height)) entries r) ⌝ }
 {
-    let looked = evaluate(row, rela, values, setting);
-    match looked {
-        Found::Refused(refusal) => refused(refusal, stack),
-        Found::Value(x) => {
-            if outside(setting.size, rela.offset, 4) {
-                return refused(8, stack);
-            }
-            if numbers::plus(setting.address, rela.offset) % 4 != 0 {
-                return refused(9, stack);
-            }
-            Done {
-                refusal: range_refusal(row, rela.kind, x),
-                stack,
-                value: x,
-            }
-        }
+    let refusal = value_refusal(rows, rela, values);
+    if refusal != 0 {
+        return refused(refusal, stack);
+    }
+    if outside(setting.size, rela.offset, 4) {
+        return refused(8, stack);
+    }
+    if numbers::plus(setting.address, rela.offset) % 4 != 0 {
+        return refused(9, stack);
+    }
+    let row = table::row_of(rows, rela.kind);
+    if row.range == 0 {
+        return Done { refusal: 0, stack };
+    }
+    let x = evaluate(rows, rela, values, setting);
+    Done {
+        refusal: range_refusal(row, rela.kind, x),
+        stack,
     }
 }
 
 // 1, 2, 47 to 56, 99: bytes of data.
-fn data(row: Row, rela: Record, values: &[u8], setting: Setting, stack: Stack) -> Done
-    requires { ⌜ At row (rela .kind) 7 (stack .height) ⌝ }
+fn data(rows: &[[u8; 16]; 101], rela: Record, values: &[u8], setting: Setting, stack: Stack) -> Done
+    requires { ⌜ now rows ≡ lines ⌝ }
+    requires { ⌜ At (rela .kind) 7 (stack .height) ⌝ }
     ensures { λ r. ⌜ ((entries : List ℤ) → length entries ≡ 16 → Steps (given (setting .size) (now (values .entry)) (setting .address) (setting .gp))
         (asRecord rela) (semantics (rela .kind)) (tops entries (stack .height)) entries r) ⌝ }
 {
-    let looked = evaluate(row, rela, values, setting);
-    match looked {
-        Found::Refused(refusal) => refused(refusal, stack),
-        Found::Value(x) => {
-            if outside(setting.size, rela.offset, row.count) {
-                return refused(8, stack);
-            }
-            Done {
-                refusal: 0,
-                stack,
-                value: x,
-            }
-        }
+    let refusal = value_refusal(rows, rela, values);
+    if refusal != 0 {
+        return refused(refusal, stack);
     }
+    let row = table::row_of(rows, rela.kind);
+    if outside(setting.size, rela.offset, row.count) {
+        return refused(8, stack);
+    }
+    Done { refusal: 0, stack }
 }
 
 // One record's step, by the class of its type.
 pub fn step(
-    row: Row,
+    rows: &[[u8; 16]; 101],
     rela: Record,
     values: &[u8],
     setting: Setting,
     entries: &mut [i64; Stack::DEPTH],
     stack: Stack,
 ) -> Done
-    requires { ⌜ row ≡ columns (semantics (rela .kind)) ⌝ }
+    requires { ⌜ now rows ≡ lines ⌝ }
     requires { ⌜ (stack .height ≤ 16) × (length (now entries) ≡ 16) ⌝ }
     ensures { λ r. ⌜ Steps (given (setting .size) (now (values .entry)) (setting .address) (setting .gp)) (asRecord rela) (semantics (rela .kind))
         (tops (now (entries .entry)) (stack .height)) (now (entries .exit)) r ⌝ }
 {
+    let row = table::row_of(rows, rela.kind);
     let class = row.class;
     match class {
-        1 => Done {
-            refusal: 0,
-            stack,
-            value: 0,
-        },
+        1 => Done { refusal: 0, stack },
         2 => refused(5, stack),
-        3 => push(row, rela, values, setting, entries, stack),
-        4 => operate(row, rela.kind, entries, stack),
-        5 => stack_word(row, rela, setting, entries, stack),
-        6 => word(row, rela, values, setting, stack),
-        7 => data(row, rela, values, setting, stack),
+        3 => push(rows, rela, values, setting, entries, stack),
+        4 => operation(rows, rela.kind, entries, stack),
+        5 => stack_word(rows, rela, setting, entries, stack),
+        6 => word(rows, rela, values, setting, stack),
+        7 => data(rows, rela, values, setting, stack),
         _ => refused(4, stack),
     }
 }

@@ -24,10 +24,6 @@ formulaFrom n x = getD (whole x ∷ (x -PC) ∷ pages x ∷ far x ∷ []) n (who
 abbrev pub wayFrom : ℕ → Way
 wayFrom n = getD (store-in ∷ add-to ∷ subtract-from ∷ []) n store-in
 
--- alias
-abbrev pub operationFrom : ℕ → Operation
-operationFrom n = operationOf n
-
 pub value-back : (v : Value) → valueFrom (bit v) ≡ v
 value-back S = refl
 value-back G = refl

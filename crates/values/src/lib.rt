@@ -4,16 +4,10 @@ ghost use Prim.Native.Nat.{_+_, _/_, _≤_, _<_};
 ghost use lib.ListN.{length};
 ghost use Rattle.meaning.specs.Numbers.{pieces};
 ghost use Rattle.meaning.specs.Call.{rowOf};
-ghost use Rattle.values.specs.Found.{foundAt, sumBy, formulaBy, thenValue};
+ghost use Rattle.values.specs.Values.{refusalAt, wordAt, sumBy, formulaBy};
 
 // A value row is seven u64: a mask, then S, G, PLT, T, IE, GD.
 pub const ROW: usize = 56;
-
-// A value, or the number of a refusal: 6 or 7.
-pub enum Found {
-    Value(u64),
-    Refused(u32),
-}
 
 // The row of a symbol from 1 up: the part of the table where it stands.
 fn row(values: &[u8], symbol: u64) -> &[u8]
@@ -25,57 +19,58 @@ fn row(values: &[u8], symbol: u64) -> &[u8]
     &values[at..end]
 }
 
-// The value of a symbol with a mask bit. Symbol 0 has S present and 0, and nothing else.
-fn value(values: &[u8], symbol: u64, bit: u32) -> Found
+// Refusal 6 where a symbol has no row, 7 where its value with a mask bit is absent, else 0. Symbol 0 has S present, and nothing else.
+pub fn refusal(values: &[u8], symbol: u64, bit: u32) -> u32
     requires { ⌜ bit < 6 ⌝ }
-    ensures { λ r. ⌜ r ≡ foundAt (pieces 56 (now (values .entry))) symbol bit ⌝ }
+    ensures { λ r. ⌜ r ≡ refusalAt (pieces 56 (now (values .entry))) symbol bit ⌝ }
 {
     if symbol == 0 {
         if bit == 0 {
-            return Found::Value(0);
+            return 0;
         }
-        return Found::Refused(7);
+        return 7;
     }
     let rows = (values.len() / ROW) as u64;
     if rows < symbol {
-        return Found::Refused(6);
+        return 6;
     }
-    let own = row(values, symbol);
-    let mask = bytes_le::get_u64(own, 0);
-    if (mask >> bit) % 2 == 1 {
-        let word = 8 * (1 + bit as usize);
-        return Found::Value(bytes_le::get_u64(own, word));
+    let mask = bytes_le::get_u64(row(values, symbol), 0);
+    if (mask >> bit) % 2 == 1 { 0 } else { 7 }
+}
+
+// The word of a symbol's row that a mask bit stands for. Symbol 0 has zeros.
+fn raw(values: &[u8], symbol: u64, bit: u32) -> u64
+    requires { ⌜ (symbol ≤ length (now values) / 56) × (bit < 6) ⌝ }
+    ensures { λ r. ⌜ r ≡ wordAt (pieces 56 (now (values .entry))) symbol bit ⌝ }
+{
+    if symbol == 0 {
+        return 0;
     }
-    Found::Refused(7)
+    let word = 8 * (1 + bit as usize);
+    bytes_le::get_u64(row(values, symbol), word)
 }
 
 // A value alone, with the addend, or with GP.
 fn sum(kind: u32, addend: u64, gp: u64, x: u64) -> u64
     ensures { λ r. ⌜ r ≡ sumBy kind addend gp x ⌝ }
 {
-    if kind == 1 {
-        return numbers::plus(x, addend);
+    match kind {
+        0 => x,
+        1 => numbers::plus(x, addend),
+        _ => numbers::plus(gp, x),
     }
-    if kind == 2 {
-        return numbers::plus(gp, x);
-    }
-    x
 }
 
 // A sum itself, or its distance from PC, from PC's page, or from PC with its low 32 bits cleared.
 fn formula(kind: u32, pc: u64, x: u64) -> u64
     ensures { λ r. ⌜ r ≡ formulaBy kind pc x ⌝ }
 {
-    if kind == 1 {
-        return numbers::minus(x, pc);
+    match kind {
+        0 => x,
+        1 => numbers::minus(x, pc),
+        2 => numbers::minus(numbers::cleared(12, x), numbers::cleared(12, pc)),
+        _ => numbers::minus(x, numbers::cleared(32, pc)),
     }
-    if kind == 2 {
-        return numbers::minus(numbers::cleared(12, x), numbers::cleared(12, pc));
-    }
-    if kind == 3 {
-        return numbers::minus(x, numbers::cleared(32, pc));
-    }
-    x
 }
 
 // What a type's formula gives at a record: the kinds of its value, sum and formula are those of its row of the table.
@@ -88,13 +83,9 @@ pub fn evaluate(
     addend: u64,
     gp: u64,
     pc: u64,
-) -> Found
-    requires { ⌜ bit < 6 ⌝ }
-    ensures { λ r. ⌜ r ≡ thenValue (λ x. formulaBy less pc (sumBy plus addend gp x)) (foundAt (pieces 56 (now (values .entry))) symbol bit) ⌝ }
+) -> u64
+    requires { ⌜ (symbol ≤ length (now values) / 56) × (bit < 6) ⌝ }
+    ensures { λ r. ⌜ r ≡ formulaBy less pc (sumBy plus addend gp (wordAt (pieces 56 (now (values .entry))) symbol bit)) ⌝ }
 {
-    let found = value(values, symbol, bit);
-    match found {
-        Found::Value(x) => Found::Value(formula(less, pc, sum(plus, addend, gp, x))),
-        Found::Refused(n) => Found::Refused(n),
-    }
+    formula(less, pc, sum(plus, addend, gp, raw(values, symbol, bit)))
 }

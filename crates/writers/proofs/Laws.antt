@@ -1,31 +1,48 @@
 -- What the writers leave, over plain numbers, lists and rows. A row is given by its equation with the type's columns.
 -- Assumes nothing.
-use Prim.Native.Nat.{ℕ, zero, suc, _+_, _-_, _≤_, _<_}
-use native.Mathlib.Nat.{not-suc-le-zero}
+use Prim.Native.Nat.{ℕ, zero, suc, _+_, _-_, _*_, _/_, _%_, _^_, _≤_, _<_}
+use native.Mathlib.Nat.{not-suc-le-zero, zero-add, div-add-mod'}
 use native.Mathlib.Omega.{arith}
 use mathlib.Core.Bool.{false}
-use mathlib.Core.List.{List, _++_, append-nil}
-use mathlib.Core.Path.{_≡_, refl, sym, ap, _∙_, subst}
-use borrow.Author.Tests.{ltb-false}
+use mathlib.Core.List.{List, _∷_, _++_, append-nil}
+use mathlib.Core.Path.{_≡_, refl, sym, ap, _∙_, subst, subst⁻¹}
+use borrow.Author.Tests.{ltb-false, le-ltb}
 use borrow.Rule.Slice.PartMut.{putMid}
 use lib.Dec.{T, leb, leb→le, eqb·suc-zero}
+use lib.IntN.{ℤ}
 use lib.ListN.{length, take, drop, length-drop, drop-of-length-le}
 use lib.Seq.{take-all}
 use Rattle.meaning.proofs.Sound.{sound}
 use Rattle.meaning.specs.Numbers.{number, bytesOf, plus, minus}
-use Rattle.meaning.specs.Table.{Semantics, unnamed, idle, loaders, push, operation, Source, stack, of, word, bytes, add-to, subtract-from, semantics}
+use Rattle.meaning.specs.Table.{Semantics, unnamed, idle, loaders, push, operation, stack, of, word, bytes, add-to, subtract-from, semantics}
+use Rattle.meaning.specs.Call as M
+use Rattle.meaning.specs.Stack.{depth, after}
 use Rattle.meaning.specs.Field.{slice, splice, put}
-use Rattle.meaning.specs.Checks.{writes, outside}
-use Rattle.meaning.specs.Patch.{replaced, combined}
+use Rattle.meaning.specs.Checks.{answer, ofRecord, outside}
+use Rattle.meaning.specs.Patch.{replaced, combined, effect}
+use Rattle.lemmas.specs.First.{Every, Passes, Numbered, zero-passes}
 use Rattle.lemmas.specs.Modulo.{bytes-plus, bytes-minus}
+use Rattle.lemmas.specs.Operations.{operationOf}
+use Rattle.stack.specs.Tops.{tops, Puts, operationRefusal, operationStack}
+use Rattle.stack.specs.Laws.{length-tops}
 use Rattle.table.specs.declared.Row.{Row}
-use Rattle.table.specs.Columns.{classOf, partsOf, rangeOf, columns}
+use Rattle.table.specs.Columns.{classOf, partsOf, columns}
 use Rattle.table.specs.Look.{both, sound-at, fits-at}
-use Rattle.table.specs.Laws.{wayFrom, class-bytes}
+use Rattle.table.specs.Laws.{class-push, class-operation, class-stack-word, class-word, class-bytes}
 use Rattle.table.specs.Words.{put-columns}
-use Rattle.writers.specs.Written.{written, renewed}
+use Rattle.steps.specs.Refusal.{refusalOf, low-symbol, refusal-operation}
+use Rattle.steps.specs.Step.{given}
+use Rattle.writers.specs.Written.{renewed, Holds, Leaves}
 
 -- ---- a row's numbers, and a word by them
+
+-- a part of no bits changes nothing
+splice-none : (k l x w : ℕ) → splice k 0 (slice l 0 x) w ≡ w
+splice-none k l x w =
+    let z : slice l 0 x ≡ 0 = omega arith in
+    let e : w / 2 ^ (0 + k) * 2 ^ (0 + k) ≡ w / 2 ^ k * 2 ^ k = ap (λ (m : ℕ). w / 2 ^ m * 2 ^ m) (zero-add k) in
+    let s : w / 2 ^ k * 2 ^ k + w % 2 ^ k ≡ w = div-add-mod' w (2 ^ k) in
+    rw z (omega arith)
 
 module _ (row : Row) (kind : ℕ) (e : row ≡ columns (semantics kind)) where
   -- both parts of a field lie inside the value and inside the word
@@ -41,22 +58,37 @@ module _ (row : Row) (kind : ℕ) (e : row ≡ columns (semantics kind)) where
   pub way-fits : row .way ≤ 2
   way-fits = rw e (fits-at kind .way)
 
-  -- two insertions are the field
-  pub word-renewed : (x old high new : ℕ) (s part : List ℕ) → old ≡ number (take 4 s) →
-      high ≡ splice (row .at) (row .many) (slice (row .low) (row .many) x) old →
-      new ≡ splice (row .at2) (row .many2) (slice (row .low2) (row .many2) x) high →
-      part ≡ bytesOf 4 new ++ drop 4 s → part ≡ renewed 4 (put (partsOf (semantics kind)) x) s
-  word-renewed x old high new s part a b c d =
-      rw (d, c, b, a, e, put-columns kind x (number (take 4 s)))
+  module _ (x old high : ℕ) (s part : List ℕ) (a : old ≡ number (take 4 s))
+      (b : high ≡ splice (row .at) (row .many) (slice (row .low) (row .many) x) old) where
+    -- two insertions are the field
+    pub two-parts : (new : ℕ) → new ≡ splice (row .at2) (row .many2) (slice (row .low2) (row .many2) x) high →
+        part ≡ bytesOf 4 new ++ drop 4 s → part ≡ renewed 4 (put (partsOf (semantics kind)) x) s
+    two-parts new c d = rw (d, c, b, a, e, put-columns kind x (number (take 4 s)))
+
+    -- and so is one where the second part has no bits
+    pub one-part : row .many2 ≡ 0 → part ≡ bytesOf 4 high ++ drop 4 s → part ≡ renewed 4 (put (partsOf (semantics kind)) x) s
+    one-part none d =
+        two-parts high (rw none (sym (splice-none (row .at2) (row .low2) x high))) d
 
 -- ---- data
 
-module _ (n x old r : ℕ) (s part : List ℕ) (few : n ≤ 8) (e : old ≡ number (take n s)) (d : part ≡ bytesOf n r ++ drop n s) where
-  pub added : r ≡ plus 64 old x → part ≡ renewed n (combined add-to n x) s
-  added h = rw (d, h, e, bytes-plus n (number (take n s)) x few)
+module _ (n x : ℕ) (s part : List ℕ) (few : n ≤ 8) where
+  pub added : part ≡ renewed n (plus 64 x) s → part ≡ renewed n (combined add-to n x) s
+  added d =
+      let old = number (take n s) in
+      let turned : plus 64 x old ≡ plus 64 old x = omega arith in
+      rw (d, turned, bytes-plus n old x few)
 
-  pub subtracted : r ≡ minus 64 old x → part ≡ renewed n (combined subtract-from n x) s
-  subtracted h = rw (d, h, e, bytes-minus n (number (take n s)) x few)
+  pub subtracted : (y : ℕ) → y ≡ minus 64 0 x → part ≡ renewed n (plus 64 y) s → part ≡ renewed n (combined subtract-from n x) s
+  subtracted y h d =
+      let old = number (take n s) in
+      let turned : plus 64 (minus 64 0 x) old ≡ minus 64 old x = omega arith in
+      rw (d, h, turned, bytes-minus n old x few)
+
+pub two : (way : ℕ) → way ≤ 2 → (way ≡ 0 → ⊥) → (way ≡ 1 → ⊥) → way ≡ 2
+two zero h a b = absurd (a refl)
+two (suc zero) h a b = absurd (b refl)
+two (suc (suc n)) h a b = omega arith
 
 -- ---- the section
 
@@ -71,63 +103,85 @@ inside : (size at n : ℕ) → 1 ≤ n → outside size at n ≡ false → at + 
 inside size at zero some h = absurd (not-suc-le-zero some)
 inside size at (suc n) some h = ltb-false size (at + suc n) (rw eqb·suc-zero at h)
 
-nothing : (d : Semantics) (at x : ℕ) (s : List ℕ) → classOf d < 5 → s ≡ written d at x s
-nothing unnamed at x s h = refl
-nothing idle at x s h = refl
-nothing loaders at x s h = refl
-nothing (push f) at x s h = refl
-nothing (operation o) at x s h = refl
-nothing (word stack parts range) at x s h = absurd (omega arith)
-nothing (word (of f) parts range) at x s h = absurd (omega arith)
-nothing (bytes way n f) at x s h = absurd (omega arith)
+-- ---- a record that no check refuses, by the class of its type
 
--- the classes 5 and 6 are the words
-a-word : (d : Semantics) → 5 ≤ classOf d → (classOf d ≡ 7 → ⊥) → (source : Source) × (d ≡ word source (partsOf d) (rangeOf d))
-a-word unnamed h k = absurd (omega arith)
-a-word idle h k = absurd (omega arith)
-a-word loaders h k = absurd (omega arith)
-a-word (push f) h k = absurd (omega arith)
-a-word (operation o) h k = absurd (omega arith)
-a-word (word source parts range) h k = (source, refl)
-a-word (bytes way n f) h k = absurd (k refl)
+numbered : (c : M.Setting) (r : M.Record) (d : Semantics) (st : List ℤ) → Every Numbered (ofRecord c 0 r d st)
+numbered c r d st = omega arith
 
-module _ (row : Row) (kind : ℕ) (e : row ≡ columns (semantics kind)) (at : ℕ) (s : List ℕ) where
-  class-is : row .class ≡ classOf (semantics kind)
-  class-is = ap (λ (r : Row). r .class) e
+module _ (size : ℕ) (values : List ℕ) (address gp : ℕ) (r : M.Record) (st : List ℤ) where
+  abbrev c : M.Setting
+  c = given size values address gp
 
-  pub nothing-written : (x : ℕ) → row .class < 5 → s ≡ written (semantics kind) at x s
-  nothing-written x h = nothing (semantics kind) at x s (rw class-is at h)
+  -- the stack after a record and what it writes, by what its type is
+  pub leaving : {d d′ : Semantics} {entries : List ℤ} {h : ℕ} → d ≡ d′ → Holds (after c r d′ st) entries h → Leaves c r d st entries h
+  leaving {entries = entries} {h} e p = subst⁻¹ (λ (x : Semantics). Leaves c r x st entries h) e p
 
-  module _ (seven : row .class ≡ 7) where
-    is-bytes : classOf (semantics kind) ≡ 7
-    is-bytes = sym class-is ∙ seven
+  pub writing : (s : List ℕ) {d d′ : Semantics} {t : List ℕ} → d ≡ d′ → t ≡ effect c r d′ st s → t ≡ effect c r d st s
+  writing s {t = t} e p = subst⁻¹ (λ (x : Semantics). t ≡ effect c r x st s) e p
+
+  -- a type of no class from 3 on
+  pub others : (d : Semantics) → (classOf d ≡ 3 → ⊥) → (classOf d ≡ 4 → ⊥) → (classOf d ≡ 5 → ⊥) → (classOf d ≡ 6 → ⊥) → (classOf d ≡ 7 → ⊥) →
+      (after c r d st ≡ st) × ((s : List ℕ) → s ≡ effect c r d st s)
+  others unnamed a b e f g = (refl, λ s. refl)
+  others idle a b e f g = (refl, λ s. refl)
+  others loaders a b e f g = (refl, λ s. refl)
+  others (push x) a b e f g = absurd (a refl)
+  others (operation o) a b e f g = absurd (b refl)
+  others (word stack parts range) a b e f g = absurd (e refl)
+  others (word (of x) parts range) a b e f g = absurd (f refl)
+  others (bytes way n x) a b e f g = absurd (g refl)
+
+  module _ (kind : ℕ) (passes : refusalOf c r (semantics kind) st ≡ 0) where
+    abbrev d : Semantics
+    d = semantics kind
+
+    checked : {d′ : Semantics} → d ≡ d′ → Every Passes (ofRecord c 0 r d′ st)
+    checked {d′} e =
+        zero-passes (ofRecord c 0 r d′ st) (answer 0 0) (numbered c r d′ st) (subst (λ (x : Semantics). refusalOf c r x st ≡ 0) e passes)
+
+    pub push-low : columns d .class ≡ 3 → r .symbol ≤ length values / 56
+    push-low e = low-symbol values (r .symbol) (checked (class-push d e) .1 .1 .0)
+
+    pub push-room : columns d .class ≡ 3 → length st < depth
+    push-room e = ltb-false depth (suc (length st)) (checked (class-push d e) .1 .1 .1 .1 .1 .1 .1 .0)
+
+    pub operation-passes : length st ≤ depth → columns d .class ≡ 4 → operationRefusal (operationOf (columns d .operation)) st ≡ 0
+    unfolding operationRefusal operationStack
+    operation-passes low e =
+        sym (refusal-operation c r st low (operationOf (columns d .operation)))
+        ∙ subst (λ (x : Semantics). refusalOf c r x st ≡ 0) (class-operation d e) passes
+
+    pub stack-word-inside : columns d .class ≡ 5 → r .offset + 4 ≤ size
+    stack-word-inside e = inside size (r .offset) 4 (omega arith) (checked (class-stack-word d e) .1 .1 .1 .1 .0)
+
+    pub stack-word-some : columns d .class ≡ 5 → 1 ≤ length st
+    stack-word-some e = ltb-false (length st) 1 (checked (class-stack-word d e) .1 .1 .1 .1 .1 .1 .0)
+
+    pub word-low : columns d .class ≡ 6 → r .symbol ≤ length values / 56
+    word-low e = low-symbol values (r .symbol) (checked (class-word d e) .1 .1 .0)
+
+    pub word-inside : columns d .class ≡ 6 → r .offset + 4 ≤ size
+    word-inside e = inside size (r .offset) 4 (omega arith) (checked (class-word d e) .1 .1 .1 .1 .0)
+
+    pub bytes-low : columns d .class ≡ 7 → r .symbol ≤ length values / 56
+    bytes-low e = low-symbol values (r .symbol) (checked (class-bytes d e) .1 .1 .0)
 
     -- a sound type of this class writes some bytes, so the check of its place holds them inside
-    pub bytes-inside : outside (length s) at (writes (semantics kind)) ≡ false → at + row .count ≤ length s
+    pub bytes-inside : columns d .class ≡ 7 → r .offset + columns d .count ≤ size
     unfolding sound
-    bytes-inside within =
-        let n : ℕ = writes (semantics kind) in
-        let some : T (leb 1 n) =
-        both (leb 1 n) (leb n 8) (subst (λ (d : Semantics). T (sound d)) (class-bytes (semantics kind) is-bytes) (sound-at kind)) .0 in
-        rw e (inside (length s) at n (leb→le 1 n some) within)
+    bytes-inside e =
+        let n : ℕ = columns d .count in
+        let some : T (leb 1 n) = both (leb 1 n) (leb n 8) (subst (λ (x : Semantics). T (sound x)) (class-bytes d e) (sound-at kind)) .0 in
+        inside size (r .offset) n (leb→le 1 n some) (checked (class-bytes d e) .1 .1 .1 .1 .0)
 
-    pub bytes-written : (x : ℕ) (part : List ℕ) →
-        part ≡ renewed (row .count) (combined (wayFrom (row .way)) (row .count) x) (take (length s - at) (drop at s)) →
-        putMid at (length s - at) s part ≡ written (semantics kind) at x s
-    bytes-written x part h =
-        returned at (row .count) (combined (wayFrom (row .way)) (row .count) x) s part h
-        ∙ ap (λ (r : Row). replaced at (r .count) (combined (wayFrom (r .way)) (r .count) x) s) e
-        ∙ sym (ap (λ (d : Semantics). written d at x s) (class-bytes (semantics kind) is-bytes))
+-- ---- the stack
 
-  module _ (high : 5 ≤ row .class) (other : row .class ≡ 7 → ⊥) where
-    is-word : (source : Source) × (semantics kind ≡ word source (partsOf (semantics kind)) (rangeOf (semantics kind)))
-    is-word = a-word (semantics kind) (rw class-is at high) (rw class-is at other)
+pub holding : {st st′ : List ℤ} {entries : List ℤ} {h : ℕ} → st ≡ st′ → Holds st entries h → Holds st′ entries h
+holding {entries = entries} {h} e p = subst (λ (x : List ℤ). Holds x entries h) e p
 
-    pub word-inside : outside (length s) at (writes (semantics kind)) ≡ false → at + 4 ≤ length s
-    word-inside within =
-        inside (length s) at 4 (omega arith) (subst (λ (d : Semantics). outside (length s) at (writes d) ≡ false) (is-word .1) within)
-
-    pub word-written : (x : ℕ) (part : List ℕ) → part ≡ renewed 4 (put (partsOf (semantics kind)) x) (take (length s - at) (drop at s)) →
-        putMid at (length s - at) s part ≡ written (semantics kind) at x s
-    word-written x part h =
-        returned at 4 (put (partsOf (semantics kind)) x) s part h ∙ sym (ap (λ (d : Semantics). written d at x s) (is-word .1))
+-- a push that finds room
+pub put-holds : (s s′ : List ℤ) (h h′ refusal : ℕ) (y v : ℤ) → h < 16 → Puts s h y refusal s′ h′ → y ≡ v → Holds (v ∷ tops s h) s′ h′
+put-holds s s′ h h′ refusal y v room puts e =
+    let few : suc (length (tops s h)) ≤ depth = rw length-tops room in
+    let none : refusal ≡ 0 = puts .answers ∙ rw (le-ltb depth (suc (length (tops s h))) few) in
+    record { is = puts .becomes none ∙ ap (λ (i : ℤ). i ∷ tops s h) e; low = puts .within; long = puts .long }

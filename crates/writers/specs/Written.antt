@@ -1,21 +1,32 @@
--- The section with a number written at a place, by what a type does: the meaning's effect, with the number given.
-use Prim.Native.Nat.{ℕ}
+-- What a judged record writes and leaves on the stack.
+use Prim.Native.Nat.{ℕ, _≤_}
 use mathlib.Core.List.{List, _++_}
-use lib.ListN.{take, drop}
+use mathlib.Core.Path.{_≡_}
+use lib.IntN.{ℤ}
+use lib.ListN.{length, take, drop}
 use Rattle.meaning.specs.Numbers.{number, bytesOf}
-use Rattle.meaning.specs.Table.{Semantics, unnamed, idle, loaders, push, operation, word, bytes}
-use Rattle.meaning.specs.Field.{put}
-use Rattle.meaning.specs.Patch.{replaced, combined}
-
-abbrev pub written : Semantics → ℕ → ℕ → List ℕ → List ℕ
-written unnamed offset x s = s
-written idle offset x s = s
-written loaders offset x s = s
-written (push f) offset x s = s
-written (operation o) offset x s = s
-written (word source parts range) offset x s = replaced offset 4 (put parts x) s
-written (bytes way n f) offset x s = replaced offset n (combined way n x) s
+use Rattle.meaning.specs.Table.{Semantics}
+use Rattle.meaning.specs.Call.{Setting, Record}
+use Rattle.meaning.specs.Stack.{Stack, after}
+use Rattle.stack.specs.Tops.{tops}
+use Rattle.steps.specs.Refusal.{refusalOf}
 
 -- the first n bytes of a part, as a number, replaced by a function of it
 abbrev pub renewed : ℕ → (ℕ → ℕ) → List ℕ → List ℕ
 renewed n f part = bytesOf n (f (number (take n part))) ++ drop n part
+
+-- The entries hold the stack st, of this height.
+pub record Holds (st : Stack) (entries : List ℤ) (height : ℕ) : Type 0 where
+  pub is : tops entries height ≡ st
+  pub low : height ≤ 16
+  pub long : length entries ≡ 16
+
+-- A record that does d, with the stack of this height in the entries before it, and that no check refuses.
+pub record Judged (c : Setting) (r : Record) (d : Semantics) (entries : List ℤ) (height : ℕ) : Type 0 where
+  pub passes : refusalOf c r d (tops entries height) ≡ 0
+  pub low : height ≤ 16
+  pub long : length entries ≡ 16
+
+-- The stack after a record that does d, with the stack st before it.
+abbrev pub Leaves : Setting → Record → Semantics → Stack → List ℤ → ℕ → Type 0
+Leaves c r d st entries height = Holds (after c r d st) entries height

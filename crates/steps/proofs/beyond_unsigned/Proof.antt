@@ -1,5 +1,5 @@
 use Prim.Native.Nat.{_-_, _^_}
-use lib.IntN.{pos, negℤ}
+use lib.IntN.{pos}
 use mathlib.Core.Path.{_≡_, ap, _∙_}
 use Rattle.meaning.specs.Numbers.{signed}
 use Rattle.meaning.specs.Checks.{between}

@@ -1,10 +1,13 @@
-use mathlib.Core.Path.{refl, sym, _∙_}
+use Prim.Native.Nat.{ℕ}
+use mathlib.Core.Path.{refl, sym, ap, _∙_}
 use Rattle.meaning.specs.Table.{semantics}
-use Rattle.table.specs.Columns.{columns, formulaOf, partsOf, rangeOf}
-use Rattle.steps.specs.Step.{asRecord}
+use Rattle.meaning.specs.Numbers.{signed}
+use Rattle.table.specs.Columns.{formulaOf, partsOf, rangeOf}
 use Rattle.table.specs.Laws.{class-word}
-use Rattle.steps.proofs.Small.{at-class, unaligned-yes, unaligned-no}
-use Rattle.steps.proofs.Made.{being, stops-word, outside-word, unaligned-word, goes-word}
+use Rattle.steps.specs.Step.{asRecord, given}
+use Rattle.steps.specs.Refusal.{rangeRefusal}
+use Rattle.steps.proofs.Small.{any-refusal, unaligned-yes, unaligned-no}
+use Rattle.steps.proofs.Made.{being, value-low, stops-word, outside-word, unaligned-word, goes-word}
 use borrow.Author.Needs.{needs}
 use Rattle.steps.proofs.word.Statement.{statement}
 use Rattle.steps.proofs.word.Tie as tie
@@ -15,18 +18,25 @@ use Rattle.steps.proofs.evaluate.Reads as evaluate-reads
 use Rattle.steps.proofs.outside.Reads as outside-reads
 use Rattle.steps.proofs.range_refusal.Reads as range-refusal-reads
 use Rattle.steps.proofs.refused.Reads as refused-reads
+use Rattle.steps.proofs.value_refusal.Reads as value-refusal-reads
+use Rattle.table.proofs.row_of.Reads as row-of-reads
 
-evaluate-requires : tie.Need-evaluate-requires
-evaluate-requires c κs = search needs
-
-enum-known-looked : tie.Need-enum-known-looked
-enum-known-looked c = search needs
+value-refusal-requires : tie.Need-value-refusal-requires
+value-refusal-requires c κs = search needs
 
 refused-requires : tie.Need-refused-requires
 refused-requires c κs = search needs
 
-enum-known-looked-2 : tie.Need-enum-known-looked-2
-enum-known-looked-2 c = search needs
+returns : tie.Need-returns
+returns c =
+    λ entries long.
+    let looked = c .before .before in
+    let b = looked .before .before in
+    let d = semantics (b .args .rela .kind) in
+    being (class-word d (b .pre .1 .class-is))
+    (stops-word (b .args .setting .size) (b .args .values .now) (b .args .setting .address) (b .args .setting .gp) (asRecord (b .args .rela))
+    entries (b .args .stack .height) (b .pre .1 .low) long (formulaOf d) (looked .value-refusal .ensures) (c .before .if1 .taken)
+    (partsOf d) (rangeOf d) (c .refused .ensures) (b .pre .1 .low))
 
 outside-requires : tie.Need-outside-requires
 outside-requires c κs = search needs
@@ -34,14 +44,17 @@ outside-requires c κs = search needs
 refused-requires-2 : tie.Need-refused-requires-2
 refused-requires-2 c κs = search needs
 
-returns : tie.Need-returns
-returns c =
+returns-2 : tie.Need-returns-2
+returns-2 c =
     λ entries long.
-    let b = c .before .before .before .before .before .before .before .before in
-    being (class-word (semantics (b .args .rela .kind)) (at-class (b .pre)))
+    let place = c .before .before in
+    let looked = place .before .before in
+    let b = looked .before .before in
+    let d = semantics (b .args .rela .kind) in
+    being (class-word d (b .pre .1 .class-is))
     (outside-word (b .args .setting .size) (b .args .values .now) (b .args .setting .address) (b .args .setting .gp) (asRecord (b .args .rela))
-    entries (b .args .stack .height) (b .pre .low) long
-    (formulaOf (semantics (b .args .rela .kind))) (partsOf (semantics (b .args .rela .kind))) (rangeOf (semantics (b .args .rela .kind))) _ (sym (c .before .before .before .before .before .before .evaluate .ensures) ∙ c .before .before .before .before .looked2 .given .1) (c .before .before .before .known-told2 .given .0 .1) (sym (c .before .before .outside .ensures) ∙ c .before .if1 .taken) (c .refused2 .ensures) (b .pre .low))
+    entries (b .args .stack .height) (b .pre .1 .low) long (formulaOf d) (looked .value-refusal .ensures) (place .before .if1 .left)
+    (partsOf d) (rangeOf d) (sym (place .outside .ensures) ∙ c .before .if2 .taken) (c .refused2 .ensures) (b .pre .1 .low))
 
 plus-requires : tie.Need-plus-requires
 plus-requires c κs = search needs
@@ -49,52 +62,81 @@ plus-requires c κs = search needs
 refused-requires-3 : tie.Need-refused-requires-3
 refused-requires-3 c κs = search needs
 
-returns-2 : tie.Need-returns-2
-returns-2 c =
-    λ entries long.
-    let b = c .before .before .before .before .before .before .before .before .before .before in
-    being (class-word (semantics (b .args .rela .kind)) (at-class (b .pre)))
-    (unaligned-word (b .args .setting .size) (b .args .values .now) (b .args .setting .address) (b .args .setting .gp) (asRecord (b .args .rela))
-    entries (b .args .stack .height) (b .pre .low) long
-    (formulaOf (semantics (b .args .rela .kind))) (partsOf (semantics (b .args .rela .kind))) (rangeOf (semantics (b .args .rela .kind))) _ (sym (c .before .before .before .before .before .before .before .before .evaluate .ensures) ∙ c .before .before .before .before .before .before .looked2 .given .1) (c .before .before .before .before .before .known-told2 .given .0 .1) (sym (c .before .before .before .before .outside .ensures) ∙ c .before .before .before .if1 .left)
-    (unaligned-yes _ _ (c .before .before .plus .ensures) (c .before .if2 .taken)) (c .refused3 .ensures) (b .pre .low))
-
-range-refusal-requires : tie.Need-range-refusal-requires
-range-refusal-requires c κs = search needs
-
 returns-3 : tie.Need-returns-3
 returns-3 c =
     λ entries long.
-    let b = c .before .before .before .before .before .before in
-    being (class-word (semantics (b .args .rela .kind)) (at-class (b .pre)))
-    (stops-word (b .args .setting .size) (b .args .values .now) (b .args .setting .address) (b .args .setting .gp) (asRecord (b .args .rela))
-    entries (b .args .stack .height) (b .pre .low) long
-    (formulaOf (semantics (b .args .rela .kind))) (sym (c .before .before .before .before .evaluate .ensures) ∙ c .before .before .looked .given .1) (partsOf (semantics (b .args .rela .kind))) (rangeOf (semantics (b .args .rela .kind))) (c .refused .ensures) (b .pre .low))
+    let pc = c .before .before in
+    let place = pc .before .before in
+    let looked = place .before .before in
+    let b = looked .before .before in
+    let d = semantics (b .args .rela .kind) in
+    being (class-word d (b .pre .1 .class-is))
+    (unaligned-word (b .args .setting .size) (b .args .values .now) (b .args .setting .address) (b .args .setting .gp) (asRecord (b .args .rela))
+    entries (b .args .stack .height) (b .pre .1 .low) long (formulaOf d) (looked .value-refusal .ensures) (place .before .if1 .left)
+    (partsOf d) (rangeOf d) (sym (place .outside .ensures) ∙ pc .before .if2 .left) (unaligned-yes _ _ (pc .plus .ensures) (c .before .if3 .taken))
+    (c .refused3 .ensures) (b .pre .1 .low))
+
+row-of-requires : tie.Need-row-of-requires
+row-of-requires c κs = search needs
 
 returns-4 : tie.Need-returns-4
 returns-4 c =
     λ entries long.
-    let b = c .before .before .before .before .before .before .before .before .before .before in
-    being (class-word (semantics (b .args .rela .kind)) (at-class (b .pre)))
+    let row = c .before .before in
+    let pc = row .before .before in
+    let place = pc .before .before in
+    let looked = place .before .before in
+    let b = looked .before .before in
+    let d = semantics (b .args .rela .kind) in
+    being (class-word d (b .pre .1 .class-is))
     (goes-word (b .args .setting .size) (b .args .values .now) (b .args .setting .address) (b .args .setting .gp) (asRecord (b .args .rela))
-    entries (b .args .stack .height) (b .pre .low) long
-    (formulaOf (semantics (b .args .rela .kind))) (partsOf (semantics (b .args .rela .kind))) (rangeOf (semantics (b .args .rela .kind))) _ (sym (c .before .before .before .before .before .before .before .before .evaluate .ensures) ∙ c .before .before .before .before .before .before .looked2 .given .1) (c .before .before .before .before .before .known-told2 .given .0 .1) (sym (c .before .before .before .before .outside .ensures) ∙ c .before .before .before .if1 .left)
-    (unaligned-no _ _ (c .before .before .plus .ensures) (c .before .if2 .left)) (c .range-refusal .ensures) refl refl)
+    entries (b .args .stack .height) (b .pre .1 .low) long (formulaOf d) (looked .value-refusal .ensures) (place .before .if1 .left)
+    (partsOf d) (rangeOf d) (sym (place .outside .ensures) ∙ pc .before .if2 .left) (unaligned-no _ _ (pc .plus .ensures) (row .before .if3 .left))
+    (any-refusal (row .row-of .result) (b .args .rela .kind) (row .row-of .ensures) (c .if4 .taken) _) refl)
+
+evaluate-requires : tie.Need-evaluate-requires
+evaluate-requires c κs =
+    let looked = c .before .before .before .before .before .before .before .before in
+    let b = looked .before .before in (
+      b .pre .0,
+      value-low (given 0 (b .args .values .now) 0 0) (asRecord (b .args .rela)) (formulaOf (semantics (b .args .rela .kind))) _
+          (looked .value-refusal .ensures) (c .before .before .before .before .before .before .before .if1 .left),
+    )
+
+range-refusal-requires : tie.Need-range-refusal-requires
+range-refusal-requires c κs = search needs
+
+returns-5 : tie.Need-returns-5
+returns-5 c =
+    λ entries long.
+    let value = c .before in
+    let row = value .before .before .before in
+    let pc = row .before .before in
+    let place = pc .before .before in
+    let looked = place .before .before in
+    let b = looked .before .before in
+    let d = semantics (b .args .rela .kind) in
+    being (class-word d (b .pre .1 .class-is))
+    (goes-word (b .args .setting .size) (b .args .values .now) (b .args .setting .address) (b .args .setting .gp) (asRecord (b .args .rela))
+    entries (b .args .stack .height) (b .pre .1 .low) long (formulaOf d) (looked .value-refusal .ensures) (place .before .if1 .left)
+    (partsOf d) (rangeOf d) (sym (place .outside .ensures) ∙ pc .before .if2 .left) (unaligned-no _ _ (pc .plus .ensures) (row .before .if3 .left))
+    (c .range-refusal .ensures ∙ ap (λ (x : ℕ). rangeRefusal (rangeOf d) (signed 64 x)) (value .evaluate .ensures)) refl)
 
 pub word-spec : {M : Type 1} → statement M
 word-spec =
     tie.close
     (tie.spec
-    evaluate-requires
-    enum-known-looked
+    value-refusal-requires
     refused-requires
-    enum-known-looked-2
+    returns
     outside-requires
     refused-requires-2
-    returns
+    returns-2
     plus-requires
     refused-requires-3
-    returns-2
-    range-refusal-requires
     returns-3
-    returns-4)
+    row-of-requires
+    returns-4
+    evaluate-requires
+    range-refusal-requires
+    returns-5)

@@ -1,77 +1,67 @@
--- `writers::write_bytes` meets its contract: each way by what stores its bytes, the sum and the difference modulo 2 ^ 64 having the low bytes of
--- those modulo the width.
--- Assumes nothing.
 use mathlib.Core.Path.{_≡_}
-use native.Mathlib.Omega.{arith}
-use Rattle.writers.proofs.Laws.{added, subtracted}
+use Rattle.writers.proofs.Laws.{added, subtracted, two}
 use borrow.Author.Needs.{needs}
 use Rattle.writers.proofs.write_bytes.Statement.{statement}
 use Rattle.writers.proofs.write_bytes.Tie as tie
+use Rattle.writers.proofs.write_bytes.Reads as reads
+use Rattle.writers.proofs.write_bytes.Lts as lts
+use Rattle.bytes_le.proofs.put.Reads as put-reads
+use Rattle.numbers.proofs.minus.Reads as minus-reads
+use Rattle.writers.proofs.add_bytes.Reads as add-bytes-reads
 
 put-requires : tie.Need-put-requires
 put-requires c κs = search needs
+
+add-bytes-requires : tie.Need-add-bytes-requires
+add-bytes-requires c κs = search needs
+
+minus-requires : tie.Need-minus-requires
+minus-requires c κs = search needs
+
+add-bytes-requires-2 : tie.Need-add-bytes-requires-2
+add-bytes-requires-2 c κs = search needs
 
 same-length : tie.Need-same-length
 same-length c = search needs
 
 returns : tie.Need-returns
-returns c = rw (c .before .before .before .before .if1 .taken) (c .before .before .put .ensures)
-
-get-requires : tie.Need-get-requires
-get-requires c κs = search needs
-
-plus-requires : tie.Need-plus-requires
-plus-requires c κs = search needs
-
-put-requires-2 : tie.Need-put-requires-2
-put-requires-2 c κs = search needs
+returns c = rw (c .before .before .before .before .match .keys1) (c .before .before .put .ensures)
 
 same-length-2 : tie.Need-same-length-2
 same-length-2 c = search needs
 
 returns-2 : tie.Need-returns-2
 returns-2 c =
-    let put = c .before .before in
-    let sum = put .before in
-    let got = sum .before .before .before in
-    let a = got .before .before .before .before in
-    rw (sum .before .before .if2 .taken)
-    (added (a .args .n) (a .args .x) (got .get .result) (sum .plus .result) (a .args .part .now) _ (a .pre .0) (got .get .ensures .is) (put .put2 .ensures)
-    (sum .plus .ensures))
-
-minus-requires : tie.Need-minus-requires
-minus-requires c κs = search needs
-
-put-requires-3 : tie.Need-put-requires-3
-put-requires-3 c κs = search needs
+    let call = c .before .before in
+    let m = call .before .before in
+    let b = m .before .before in
+    rw (m .match .keys2) (added (b .args .n) (b .args .x) (b .args .part .now) _ (b .pre .0) (call .add-bytes .ensures))
 
 same-length-3 : tie.Need-same-length-3
 same-length-3 c = search needs
 
 returns-3 : tie.Need-returns-3
 returns-3 c =
-    let put = c .before .before in
-    let sum = put .before in
-    let got = sum .before .before .before in
-    let a = got .before .before .before .before in
-    let way : a .args .way ≡ 2 = omega arith in
-    rw way
-    (subtracted (a .args .n) (a .args .x) (got .get .result) (sum .minus .result) (a .args .part .now) _ (a .pre .0) (got .get .ensures .is)
-    (put .put3 .ensures) (sum .minus .ensures))
+    let call = c .before .before in
+    let less = call .before in
+    let m = less .before .before in
+    let b = m .before .before in
+    let no-0 : b .args .way ≡ 0 → ⊥ = m .match .rest .0 .1 in
+    let no-1 : b .args .way ≡ 1 → ⊥ = m .match .rest .1 in
+    let way : b .args .way ≡ 2 = two (b .args .way) (b .pre .1) no-0 no-1 in
+    rw way (subtracted (b .args .n) (b .args .x) (b .args .part .now) _ (b .pre .0) (less .minus .result) (less .minus .ensures) (call .add-bytes2 .ensures))
 
 pub write-bytes-spec : {M : Type 1} → statement M
 write-bytes-spec =
     tie.close
     (tie.spec
     put-requires
+    add-bytes-requires
+    minus-requires
+    add-bytes-requires-2
     same-length
     returns
-    get-requires
-    plus-requires
-    put-requires-2
     same-length-2
     returns-2
-    minus-requires
-    put-requires-3
     same-length-3
     returns-3)
