@@ -178,8 +178,8 @@ fn push(
     }
 }
 
-// An operation by its number. With each number written out the compiler makes a path of its own of each.
-fn operate(operation: u32, entries: &mut [i64; Stack::DEPTH], stack: Stack) -> Operated
+// An operation by its number, for judging and for writing. With each number written out the compiler makes a path of its own of each.
+pub fn operate(operation: u32, entries: &mut [i64; Stack::DEPTH], stack: Stack) -> Operated
     requires { ⌜ (stack .height ≤ 16) × (length (now entries) ≡ 16) ⌝ }
     ensures { λ r. ⌜ Operates (operationOf operation) (tops (now (entries .entry)) (stack .height)) (r .refusal) (now (entries .exit)) (r .stack .height) ⌝ }
 {

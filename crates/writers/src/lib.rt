@@ -1,6 +1,5 @@
 // The writing of a record that was judged before: a field's parts into a word, or 1 to 8 bytes stored, added to or subtracted from, at the
 // place that the section lends, and the stack after it. The checks are not made again.
-use stack::Operated;
 use stack::Stack;
 use stack::Taken;
 use steps::Record;
@@ -16,7 +15,7 @@ ghost use Rattle.meaning.specs.Field as F;
 ghost use Rattle.meaning.specs.Call.{formula};
 ghost use Rattle.meaning.specs.Stack.{entry};
 ghost use Rattle.meaning.specs.Patch.{replaced, combined, effect};
-ghost use Rattle.stack.specs.Tops.{tops, operationOf, operationStack, operationRefusal, Operates};
+ghost use Rattle.stack.specs.Tops.{tops, operationOf, operationStack, operationRefusal};
 ghost use Rattle.table.specs.Columns.{columns, lines, partsOf, formulaOf};
 ghost use Rattle.table.specs.Laws.{wayFrom};
 ghost use Rattle.steps.specs.Step.{asRecord, given};
@@ -101,32 +100,13 @@ fn push(
     above
 }
 
-// An operation by its number, each number written out, as the judging step has it for itself: a function that both called would stay a
-// call, and the compiler would make no path of each number.
-fn operate(operation: u32, entries: &mut [i64; Stack::DEPTH], stack: Stack) -> Operated
-    requires { ⌜ (stack .height ≤ 16) × (length (now entries) ≡ 16) ⌝ }
-    ensures { λ r. ⌜ Operates (operationOf operation) (tops (now (entries .entry)) (stack .height)) (r .refusal) (now (entries .exit)) (r .stack .height) ⌝ }
-{
-    match operation {
-        0 => stack::operate(0, entries, stack),
-        1 => stack::operate(1, entries, stack),
-        2 => stack::operate(2, entries, stack),
-        3 => stack::operate(3, entries, stack),
-        4 => stack::operate(4, entries, stack),
-        5 => stack::operate(5, entries, stack),
-        6 => stack::operate(6, entries, stack),
-        7 => stack::operate(7, entries, stack),
-        _ => stack::operate(8, entries, stack),
-    }
-}
-
 // 24, 30 to 37: an operation on the stack's entries.
 fn operation(number: u32, entries: &mut [i64; Stack::DEPTH], stack: Stack) -> Stack
     requires { ⌜ (stack .height ≤ 16) × (length (now entries) ≡ 16) ⌝ }
     requires { ⌜ operationRefusal (operationOf number) (tops (now entries) (stack .height)) ≡ 0 ⌝ }
     ensures { λ r. ⌜ Holds (operationStack (operationOf number) (tops (now (entries .entry)) (stack .height))) (now (entries .exit)) (r .height) ⌝ }
 {
-    let operated = operate(number, entries, stack);
+    let operated = steps::operate(number, entries, stack);
     let after = operated.stack;
     after
 }

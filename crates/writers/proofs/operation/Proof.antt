@@ -4,7 +4,7 @@ use Rattle.writers.proofs.operation.Statement.{statement}
 use Rattle.writers.proofs.operation.Tie as tie
 use Rattle.writers.proofs.operation.Reads as reads
 use Rattle.writers.proofs.operation.Lts as lts
-use Rattle.writers.proofs.operate.Reads as operate-reads
+use Rattle.steps.proofs.operate.Reads as operate-reads
 
 operate-requires : tie.Need-operate-requires
 operate-requires c κs = search needs
