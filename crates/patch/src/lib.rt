@@ -119,11 +119,11 @@ fn write_all(
     let count = records.len() / RECORD;
     let mut entries = [0i64; Stack::DEPTH];
     let mut stack = Stack::empty();
-    let mut i = 0;
-    while i < count {
-        let rela = record_at(records, i);
+    let mut written = 0;
+    while written < count {
+        let rela = record_at(records, written);
         stack = writers::write(rows, section, rela, values, setting, &mut entries, stack);
-        i += 1;
+        written += 1;
     }
 }
 

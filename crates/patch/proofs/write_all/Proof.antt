@@ -23,12 +23,12 @@ use Rattle.patch.proofs.record_at.Reads as record-at-reads
 use Rattle.writers.proofs.write.Reads as write-reads
 
 abbrev Inv-loop : tie.InvT-loop
-Inv-loop rows section₀ records values setting count entries₀ stack₀ i₀ section entries stack i =
+Inv-loop rows section₀ records values setting count entries₀ stack₀ written₀ section entries stack written =
     let c = given (setting .size) values (setting .address) (setting .gp) in
-    (count ≡ length records / 24) × (length section ≡ length section₀) × Going c records entries (stack .height) i × Leaving c records section₀ section entries (stack .height) i
+    (count ≡ length records / 24) × (length section ≡ length section₀) × Going c records entries (stack .height) written × Leaving c records section₀ section entries (stack .height) written
 
 abbrev μ-loop : tie.MeasureT-loop
-μ-loop rows section₀ records values setting count entries₀ stack₀ i₀ section entries stack i = count - i
+μ-loop rows section₀ records values setting count entries₀ stack₀ written₀ section entries stack written = count - written
 
 -- at the loop's head: the function's start, what a call gives to its records, the record bytes, and the stack
 abbrev begun : tie.At-loop Inv-loop μ-loop → tie.Start Inv-loop μ-loop
@@ -47,21 +47,21 @@ few : (b : tie.Start Inv-loop μ-loop) → length (bytes b) ≤ 49152
 few b = b .pre .1 .0 .1
 
 -- in a turn: its record is the list's, no check refuses it, and what is written is its effect
-more : (c : tie.In-loop Inv-loop μ-loop) → c .before .loop .i < length (bytes (begun (c .before))) / 24
+more : (c : tie.In-loop Inv-loop μ-loop) → c .before .loop .written < length (bytes (begun (c .before))) / 24
 more c = c .loop-test .taken
 
 passes : (c : tie.In-loop Inv-loop μ-loop) →
     let l = c .before in
-    let r = recordOf (piece 24 (bytes (begun l)) (l .loop .i)) in
+    let r = recordOf (piece 24 (bytes (begun l)) (l .loop .written)) in
     refusalOf (call (begun l)) r (semantics (r .type)) (st l) ≡ 0
 passes c =
     let l = c .before in
     let b = begun l in
-    passes-here (call b) (bytes b) (l .loop .entries) (l .loop .stack .height) (l .loop .i) (more c) (l .loop .inv .2) (b .pre .1 .1)
+    passes-here (call b) (bytes b) (l .loop .entries) (l .loop .stack .height) (l .loop .written) (more c) (l .loop .inv .2) (b .pre .1 .1)
 
 wrote : (c : tie.After-write Inv-loop μ-loop) →
     let l = c .before .before .before .before .before in
-    let r = recordOf (piece 24 (bytes (begun l)) (l .loop .i)) in
+    let r = recordOf (piece 24 (bytes (begun l)) (l .loop .written)) in
     Leaves (call (begun l)) r (semantics (r .type)) (st l) (c .write .last .1 .1 .1 .1 .1 .0) (c .write .result .height)
     × (c .write .last .1 .0 ≡ effect (call (begun l)) r (semantics (r .type)) (st l) (l .loop .section))
 wrote c =
@@ -102,8 +102,8 @@ write-requires c κs =
       ),
     )
 
-add-i : tie.Need-add-i Inv-loop μ-loop
-add-i c =
+add-written : tie.Need-add-written Inv-loop μ-loop
+add-written c =
     let l = c .before .before .before .before .before .before .before in
     omega (arith, few (begun l))
 
@@ -119,8 +119,8 @@ loop-again c =
     let w = wrote write in (
       l .loop .inv .0,
       write .write .kept .1 .0 ∙ l .loop .inv .1,
-      goes-on (call b) (bytes b) (l .loop .entries) (l .loop .stack .height) (l .loop .i) (more turn) (l .loop .inv .2) _ _ (passes turn) (w .0 .is) (w .0 .long) (w .0 .low),
-      leaves-on (call b) (bytes b) (l .loop .entries) (l .loop .stack .height) (l .loop .i) (more turn) (b .args .section .now) (l .loop .section) _ _ _ (l .loop .inv .3) (w .0 .is) (w .1),
+      goes-on (call b) (bytes b) (l .loop .entries) (l .loop .stack .height) (l .loop .written) (more turn) (l .loop .inv .2) _ _ (passes turn) (w .0 .is) (w .0 .long) (w .0 .low),
+      leaves-on (call b) (bytes b) (l .loop .entries) (l .loop .stack .height) (l .loop .written) (more turn) (b .args .section .now) (l .loop .section) _ _ _ (l .loop .inv .3) (w .0 .is) (w .1),
     )
 
 same-length : tie.Need-same-length Inv-loop μ-loop
@@ -130,7 +130,7 @@ returns : tie.Need-returns Inv-loop μ-loop
 returns c =
     let l = c .before in
     let b = begun l in
-    ends-leaving (call b) (bytes b) (l .loop .entries) (l .loop .stack .height) (l .loop .i) (omega arith) (b .args .section .now) (l .loop .section) (l .loop .inv .3)
+    ends-leaving (call b) (bytes b) (l .loop .entries) (l .loop .stack .height) (l .loop .written) (omega arith) (b .args .section .now) (l .loop .section) (l .loop .inv .3)
 
 pub write-all-spec : {M : Type 1} → statement M
 write-all-spec =
@@ -142,7 +142,7 @@ write-all-spec =
     loop-holds
     record-at-requires
     write-requires
-    add-i
+    add-written
     loop-less
     loop-again
     same-length
