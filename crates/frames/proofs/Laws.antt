@@ -3,60 +3,90 @@ use Prim.Native.Nat.{ℕ, zero, suc, _+_, _-_, _*_, _/_, _%_, _^_, _≤_, _<_}
 use native.Mathlib.Nat.{add-zero, add-assoc, le-of-suc-le-suc, not-suc-le-zero}
 use native.Mathlib.Numerals.{add-one}
 use native.Mathlib.Omega.{arith}
-use mathlib.Core.Bool.{Bool, true, false, cond, not, _&&_, false≢true}
-use mathlib.Core.List.{List, [], _∷_, _++_, append-assoc}
+use mathlib.Core.Bool.{Bool, true, false, cond, not, _&&_, _||_, false≢true}
+use mathlib.Core.List.{List, [], _∷_, _++_, append-assoc, append-nil}
 use mathlib.Core.Path.{_≡_, refl, sym, ap, _∙_, subst}
-use borrow.Author.Tests.{lt-ltb, le-ltb, le-leb, lt-leb, eq-eqb, ne-eqb, ltb-true}
+use borrow.Author.Tests.{lt-ltb, le-ltb, eq-eqb, ne-eqb, ltb-true, ltb-false, leb-true, eqb-true, eqb-false}
+use borrow.Rule.Slice.PartMut.{putMid}
 use lib.Dec.{eqb, ltb, leb}
 use lib.ListN.{length, take, drop, getD, set, length-append, length-take, length-drop, length-set, take-append-drop, drop-of-length-le}
 use lib.Pow.{pow-add, pow-mono}
-use lib.Seq.{drop-cons, take-suc-set, drop-set-lt, length-take-le, take-at, drop-at, drop-drop}
+use lib.Seq.{drop-cons, take-suc-set, drop-set-lt, getD-set-same, getD-set-other, length-take-le, take-at, drop-at, drop-drop}
 use Rattle.meaning.specs.Frames.{linesOf, onto, digit, allDigits, numeral, bytesIn, kind, body, sized, follows, wellFormed}
-use Rattle.frames.specs.Text.{lineLength, laid}
+use Rattle.frames.specs.Text.{lineLength, digitsLength, laid}
 
 -- ---- a digit
 
+pub data Digit (b : ℕ) : Type 0 where
+  decimal : 48 ≤ b → b ≤ 57 → digit b ≡ b - 48 → Digit b
+  upper : 65 ≤ b → b ≤ 70 → digit b ≡ 10 + (b - 65) → Digit b
+  lower : 97 ≤ b → b ≤ 102 → digit b ≡ 10 + (b - 97) → Digit b
+  none : digit b ≡ 16 → Digit b
+
+pub both : (a b : Bool) → a && b ≡ true → (a ≡ true) × (b ≡ true)
+both true b e = (refl, e)
+both false b e = absurd (false≢true e)
+
+between : (low b high : ℕ) → (leb low b && leb b high) ≡ true → (low ≤ b) × (b ≤ high)
+between low b high e = let h = both (leb low b) (leb b high) e in (leb-true low b (h .0), leb-true b high (h .1))
+
 module _ (b : ℕ) where
-  pub below-0 : b < 48 → 16 ≡ digit b
+  pub which : Digit b
   unfolding digit
-  below-0 h = simp (lt-leb 48 b h, lt-leb 65 b (omega arith), lt-leb 97 b (omega arith))
+  which = go (leb 48 b && leb b 57) (leb 65 b && leb b 70) (leb 97 b && leb b 102) refl refl refl
+    where
+      go : (x y z : Bool) → (leb 48 b && leb b 57) ≡ x → (leb 65 b && leb b 70) ≡ y → (leb 97 b && leb b 102) ≡ z → Digit b
+      go true y z p q r = let h = between 48 b 57 p in decimal (h .0) (h .1) (rw p)
+      go false true z p q r = let h = between 65 b 70 q in upper (h .0) (h .1) (rw (p, q))
+      go false false true p q r = let h = between 97 b 102 r in lower (h .0) (h .1) (rw (p, q, r))
+      go false false false p q r = none (rw (p, q, r))
 
-  pub from-0-to-9 : 48 ≤ b → b ≤ 57 → b - 48 ≡ digit b
+  -- the three tests together
+  pub tests : (x y z : Bool) → x ≡ (leb 48 b && leb b 57) → y ≡ (leb 65 b && leb b 70) → z ≡ (leb 97 b && leb b 102) → (x || y) || z ≡ ltb (digit b) 16
   unfolding digit
-  from-0-to-9 l h = simp (le-leb 48 b l, le-leb b 57 h)
+  tests true y z p q r = let h = between 48 b 57 (sym p) in sym (rw (← p) (lt-ltb (b - 48) 16 (omega arith)))
+  tests false true z p q r = let h = between 65 b 70 (sym q) in sym (rw (← p, ← q) (lt-ltb (10 + (b - 65)) 16 (omega arith)))
+  tests false false true p q r = let h = between 97 b 102 (sym r) in sym (rw (← p, ← q, ← r) (lt-ltb (10 + (b - 97)) 16 (omega arith)))
+  tests false false false p q r = sym (rw (← p, ← q, ← r))
 
-  pub below-A : 57 < b → b < 65 → 16 ≡ digit b
-  unfolding digit
-  below-A l h = simp (le-leb 48 b (omega arith), lt-leb b 57 l, lt-leb 65 b h, lt-leb 97 b (omega arith))
+  pub value-low : digit b < 16 → b < 64 → b % 16 ≡ digit b
+  value-low d h = go which
+    where
+      go : Digit b → b % 16 ≡ digit b
+      go (decimal l u e) = omega arith
+      go (upper l u e) = omega arith
+      go (lower l u e) = omega arith
+      go (none e) = omega arith
 
-  pub from-A-to-F : 65 ≤ b → b ≤ 70 → 10 + (b - 65) ≡ digit b
-  unfolding digit
-  from-A-to-F l h = simp (le-leb 48 b (omega arith), lt-leb b 57 (omega arith), le-leb 65 b l, le-leb b 70 h)
+  pub value-high : digit b < 16 → 64 ≤ b → b % 16 + 9 ≡ digit b
+  value-high d h = go which
+    where
+      go : Digit b → b % 16 + 9 ≡ digit b
+      go (decimal l u e) = omega arith
+      go (upper l u e) = omega arith
+      go (lower l u e) = omega arith
+      go (none e) = omega arith
 
-  pub below-a : 70 < b → b < 97 → 16 ≡ digit b
-  unfolding digit
-  below-a l h = simp (le-leb 48 b (omega arith), lt-leb b 57 (omega arith), le-leb 65 b (omega arith), lt-leb b 70 l, lt-leb 97 b h)
-
-  pub from-a-to-f : 97 ≤ b → b ≤ 102 → 10 + (b - 97) ≡ digit b
-  unfolding digit
-  from-a-to-f l h =
-      simp (le-leb 48 b (omega arith), lt-leb b 57 (omega arith), le-leb 65 b (omega arith), lt-leb b 70 (omega arith), le-leb 97 b l, le-leb b 102 h)
-
-  pub above-f : 102 < b → 16 ≡ digit b
-  unfolding digit
-  above-f l =
-      simp (le-leb 48 b (omega arith), lt-leb b 57 (omega arith), le-leb 65 b (omega arith), lt-leb b 70 (omega arith), le-leb 97 b (omega arith), lt-leb b 102 l)
+  -- a digit is no line feed, and below 128
+  pub no-feed : digit b < 16 → (11 ≤ b) × (b < 128)
+  no-feed d = go which
+    where
+      go : Digit b → (11 ≤ b) × (b < 128)
+      go (decimal l u e) = (omega arith, omega arith)
+      go (upper l u e) = (omega arith, omega arith)
+      go (lower l u e) = (omega arith, omega arith)
+      go (none e) = (omega arith, omega arith)
 
 -- ---- a line
 
 module _ (s : List ℕ) (at : ℕ) where
-  pub feed-here : at < length s → getD s at 0 ≡ 10 → lineLength (drop at s) ≡ 0
+  pub feed-test : at < length s → eqb (getD s at 0) 10 ≡ eqb (lineLength (drop at s)) 0
   unfolding lineLength
-  feed-here h e = rw (drop-cons s at 0 h, eq-eqb (getD s at 0) 10 e)
-
-  pub no-feed-here : at < length s → (getD s at 0 ≡ 10 → ⊥) → lineLength (drop at s) ≡ suc (lineLength (drop (suc at) s))
-  unfolding lineLength
-  no-feed-here h e = rw (drop-cons s at 0 h, ne-eqb (getD s at 0) 10 e)
+  feed-test h = rw (drop-cons s at 0 h) (go (eqb (getD s at 0) 10) (lineLength (drop (suc at) s)))
+    where
+      go : (t : Bool) (n : ℕ) → t ≡ eqb (cond t 0 (suc n)) 0
+      go true n = refl
+      go false n = sym (ne-eqb (suc n) 0 (λ e. omega arith))
 
   pub no-line-here : length s ≤ at → lineLength (drop at s) ≡ 0
   unfolding lineLength
@@ -81,17 +111,126 @@ first-line (b ∷ s) h = go (eqb b 10) s (first-line s)
 -- ---- its digits
 
 module _ (l : List ℕ) (i : ℕ) where
-  pub digits-stop : i < length l → 16 ≤ digit (getD l i 0) → allDigits (drop i l) ≡ false
+  pub digits-next : i < length l → allDigits (drop i l) ≡ (ltb (digit (getD l i 0)) 16 && allDigits (drop (suc i) l))
   unfolding allDigits
-  digits-stop h e = rw (drop-cons l i 0 h, le-ltb (digit (getD l i 0)) 16 e)
-
-  pub digits-more : i < length l → digit (getD l i 0) < 16 → allDigits (drop i l) ≡ allDigits (drop (suc i) l)
-  unfolding allDigits
-  digits-more h e = rw (drop-cons l i 0 h, lt-ltb (digit (getD l i 0)) 16 e)
+  digits-next h = rw (drop-cons l i 0 h)
 
   pub digits-end : length l ≤ i → allDigits (drop i l) ≡ true
   unfolding allDigits
   digits-end h = rw (drop-of-length-le l {i = i} h)
+
+  -- all before a place, one more, and all after it
+  pub more-digits : (all d : Bool) {z : Bool} → i < length l → d ≡ ltb (digit (getD l i 0)) 16 → z ≡ (all && allDigits (drop i l)) →
+      z ≡ ((all && d) && allDigits (drop (suc i) l))
+  more-digits all d h e q = q ∙ rw (digits-next h, ← e) (go all)
+    where
+      go : (a : Bool) → (a && (d && allDigits (drop (suc i) l))) ≡ ((a && d) && allDigits (drop (suc i) l))
+      go true = refl
+      go false = refl
+
+  pub done-digits : (all : Bool) {z : Bool} → length l ≤ i → z ≡ (all && allDigits (drop i l)) → all ≡ z
+  done-digits all h q = sym (q ∙ rw (digits-end h) (go all))
+    where
+      go : (a : Bool) → (a && true) ≡ a
+      go true = refl
+      go false = refl
+
+-- where the digits from a place on end
+module _ (s : List ℕ) (at : ℕ) where
+  pub digit-here : at < length s → ltb (digit (getD s at 0)) 16 ≡ true → digitsLength (drop at s) ≡ suc (digitsLength (drop (suc at) s))
+  unfolding digitsLength
+  digit-here h e = rw (drop-cons s at 0 h, e)
+
+  pub no-digit-here : at < length s → ltb (digit (getD s at 0)) 16 ≡ false → digitsLength (drop at s) ≡ 0
+  unfolding digitsLength
+  no-digit-here h e = rw (drop-cons s at 0 h, e)
+
+  pub no-digits-here : length s ≤ at → digitsLength (drop at s) ≡ 0
+  unfolding digitsLength
+  no-digits-here h = rw (drop-of-length-le s {i = at} h)
+
+-- a piece of digits, and those after it
+pub digits-run : (n : ℕ) (l : List ℕ) → n ≤ length l → allDigits (take n l) ≡ true → digitsLength l ≡ n + digitsLength (drop n l)
+unfolding digitsLength allDigits
+digits-run zero l h e = omega arith
+digits-run (suc n) [] h e = absurd (not-suc-le-zero h)
+digits-run (suc n) (b ∷ l) h e = go (ltb (digit b) 16) e (digits-run n l (le-of-suc-le-suc h))
+  where
+    go : (t : Bool) → (t && allDigits (take n l)) ≡ true → (allDigits (take n l) ≡ true → digitsLength l ≡ n + digitsLength (drop n l)) →
+        cond t (suc (digitsLength l)) 0 ≡ suc n + digitsLength (drop n l)
+    go true e rest = let r : digitsLength l ≡ n + digitsLength (drop n l) = rest e in omega arith
+    go false e rest = absurd (false≢true e)
+
+pub piece-digits : (at n : ℕ) (s : List ℕ) → at + n ≤ length s → allDigits (take (at + n - at) (drop at s)) ≡ true →
+    at + digitsLength (drop at s) ≡ at + n + digitsLength (drop (at + n) s)
+piece-digits at n s h e =
+    let k : at + n - at ≡ n = omega arith in
+    let q : digitsLength (drop at s) ≡ n + digitsLength (drop n (drop at s)) = digits-run n (drop at s) (rw length-drop (omega arith)) (rw k at e) in
+    let r : digitsLength (drop n (drop at s)) ≡ digitsLength (drop (at + n) s) = ap digitsLength (drop-drop n at s) in
+    omega arith
+
+-- digits are no line feeds: a line is its first digits, and what is left of it
+pub digits-first : (l : List ℕ) → lineLength l ≡ digitsLength l + lineLength (drop (digitsLength l) l)
+unfolding lineLength digitsLength
+digits-first [] = refl
+digits-first (b ∷ l) = go (ltb (digit b) 16) refl (digits-first l)
+  where
+    go : (t : Bool) → ltb (digit b) 16 ≡ t → lineLength l ≡ digitsLength l + lineLength (drop (digitsLength l) l) →
+        cond (eqb b 10) 0 (suc (lineLength l)) ≡ cond t (suc (digitsLength l)) 0 + lineLength (drop (cond t (suc (digitsLength l)) 0) (b ∷ l))
+    go true e rest =
+        let f = no-feed b (ltb-true (digit b) 16 e) in
+        let n : eqb b 10 ≡ false = ne-eqb b 10 (λ q. omega arith) in
+        rw n (omega arith)
+    go false e rest = omega arith
+
+pub digits-alone : (l : List ℕ) → allDigits (take (digitsLength l) l) ≡ true
+unfolding digitsLength allDigits
+digits-alone [] = refl
+digits-alone (b ∷ l) = go (ltb (digit b) 16) refl (digits-alone l)
+  where
+    go : (t : Bool) → ltb (digit b) 16 ≡ t → allDigits (take (digitsLength l) l) ≡ true → allDigits (take (cond t (suc (digitsLength l)) 0) (b ∷ l)) ≡ true
+    go true e rest = rw e rest
+    go false e rest = refl
+
+-- what reaches past them has a byte that is no digit
+pub no-digits : (n : ℕ) (l : List ℕ) → digitsLength l < n → digitsLength l < length l → allDigits (take n l) ≡ false
+unfolding digitsLength allDigits
+no-digits n [] h k = absurd (not-suc-le-zero k)
+no-digits zero (b ∷ l) h k = absurd (not-suc-le-zero h)
+no-digits (suc n) (b ∷ l) h k = go (ltb (digit b) 16) h k (no-digits n l)
+  where
+    go : (t : Bool) → cond t (suc (digitsLength l)) 0 < suc n → cond t (suc (digitsLength l)) 0 < suc (length l) →
+        (digitsLength l < n → digitsLength l < length l → allDigits (take n l) ≡ false) → (t && allDigits (take n l)) ≡ false
+    go true h k rest = rest (le-of-suc-le-suc h) (le-of-suc-le-suc k)
+    go false h k rest = refl
+
+-- the digits from a place on, where they end a line and where they do not
+module _ (s : List ℕ) (at end : ℕ) (is : end ≡ at + digitsLength (drop at s)) where
+  rest : drop (digitsLength (drop at s)) (drop at s) ≡ drop end s
+  rest = drop-drop (digitsLength (drop at s)) at s ∙ ap (λ (k : ℕ). drop k s) (sym is)
+
+  split : lineLength (drop at s) ≡ digitsLength (drop at s) + lineLength (drop end s)
+  split = digits-first (drop at s) ∙ ap (λ (l : List ℕ). digitsLength (drop at s) + lineLength l) rest
+
+  pub line-is : lineLength (drop end s) ≡ 0 → end ≡ at + lineLength (drop at s)
+  line-is e = let q = split in omega arith
+
+  pub line-digits : allDigits (take (end - at) (drop at s)) ≡ true
+  line-digits = let n : end - at ≡ digitsLength (drop at s) = omega arith in rw n (digits-alone (drop at s))
+
+  pub line-broken : at ≤ length s → (lineLength (drop end s) ≡ 0 → ⊥) → allDigits (take (lineLength (drop at s)) (drop at s)) ≡ false
+  line-broken o e =
+      let q = split in
+      let h = inside (ltb end (length s)) refl in
+      no-digits (lineLength (drop at s)) (drop at s) (some (lineLength (drop end s)) q e) (rw length-drop (omega arith))
+    where
+      inside : (t : Bool) → ltb end (length s) ≡ t → end < length s
+      inside true p = ltb-true end (length s) p
+      inside false p = absurd (e (no-line-here s end (ltb-false end (length s) p)))
+
+      some : (n : ℕ) → lineLength (drop at s) ≡ digitsLength (drop at s) + n → (n ≡ 0 → ⊥) → digitsLength (drop at s) < lineLength (drop at s)
+      some zero q e = absurd (e refl)
+      some (suc n) q e = omega arith
 
 pub digits-at : (l : List ℕ) (i : ℕ) → allDigits l ≡ true → i < length l → digit (getD l i 0) < 16
 unfolding allDigits
@@ -254,3 +393,79 @@ module _ (at from : ℕ) where
 
   pub append-done : (l s : List ℕ) {z : List ℕ} → length l ≤ from + 1 → z ≡ laid at (bytesIn (drop from l)) s → s ≡ z
   append-done l s h q = sym (q ∙ ap (λ (w : List ℕ). laid at w s) (bytes-end from l (omega arith)) ∙ laid-none at s)
+
+pub laid-whole : (w s : List ℕ) → length w ≡ length s → w ≡ laid 0 w s
+unfolding laid
+laid-whole w s e =
+    let n : drop (0 + length w) s ≡ [] = drop-of-length-le s {i = 0 + length w} (omega arith) in
+    rw (n, append-nil w)
+
+-- sixteen digits more
+pub bytes-split : (n : ℕ) (l : List ℕ) → n + n ≤ length l → bytesIn l ≡ bytesIn (take (n + n) l) ++ bytesIn (drop (n + n) l)
+unfolding bytesIn
+bytes-split zero l h = refl
+bytes-split (suc n) [] h = absurd (omega arith)
+bytes-split (suc n) (a ∷ []) h = absurd (omega arith)
+bytes-split (suc n) (a ∷ b ∷ l) h =
+    let m : suc n + suc n ≡ suc (suc (n + n)) = omega arith in
+    let r : bytesIn l ≡ bytesIn (take (n + n) l) ++ bytesIn (drop (n + n) l) = bytes-split n l (omega arith) in
+    rw m (ap (λ (t : List ℕ). (16 * digit a + digit b) ∷ t) r)
+
+pub piece-length : (at n : ℕ) (s : List ℕ) → at + n ≤ length s → length (take (at + n - at) (drop at s)) ≡ n
+piece-length at n s h =
+    let k : at + n - at ≡ n = omega arith in
+    rw k (length-take-le n (drop at s) (rw length-drop (omega arith)))
+
+digits-taken : (n : ℕ) (l : List ℕ) → allDigits l ≡ true → allDigits (take n l) ≡ true
+unfolding allDigits
+digits-taken zero l e = refl
+digits-taken (suc n) [] e = refl
+digits-taken (suc n) (b ∷ l) e =
+    let h = both (ltb (digit b) 16) (allDigits l) e in
+    rw (h .0) (digits-taken n l (h .1))
+
+pub digits-part : (at n : ℕ) (l : List ℕ) → allDigits l ≡ true → allDigits (take n (drop at l)) ≡ true
+unfolding allDigits
+digits-part zero n l e = digits-taken n l e
+digits-part (suc at) n [] e = digits-taken n [] refl
+digits-part (suc at) n (b ∷ l) e = digits-part at n l (both (ltb (digit b) 16) (allDigits l) e .1)
+
+-- eight bytes laid as a part
+module _ (at : ℕ) (s w : List ℕ) (long : length w ≡ 8) where
+  pub part-laid : putMid at (at + 8 - at) s w ≡ laid at w s
+  unfolding laid
+  part-laid = let k : at + 8 - at ≡ 8 = omega arith in rw (k, long, drop-drop 8 at s)
+
+  pub append-eight : (from : ℕ) (l : List ℕ) {z : List ℕ} → from + 16 ≤ length l → at + 8 ≤ length s → w ≡ bytesIn (take (from + 16 - from) (drop from l)) →
+      z ≡ laid at (bytesIn (drop from l)) s → z ≡ laid (at + 8) (bytesIn (drop (from + 16) l)) (putMid at (at + 8 - at) s w)
+  append-eight from l h fits e q =
+      let k : from + 16 - from ≡ 16 = omega arith in
+      let is : w ≡ bytesIn (take 16 (drop from l)) = rw k at e in
+      let n : 16 ≤ length (drop from l) = rw length-drop (omega arith) in
+      let parts : bytesIn (drop from l) ≡ w ++ bytesIn (drop (from + 16) l) = rw (is, ← drop-drop 16 from l) (bytes-split 8 (drop from l) n) in
+      q ∙ ap (λ (x : List ℕ). laid at x s) parts ∙ laid-append at w (bytesIn (drop (from + 16) l)) s (omega arith) ∙ rw (part-laid, long)
+
+-- ---- digits taken two by two
+
+abbrev pub Paired : List ℕ → List ℕ → ℕ → Type 0
+Paired digits pairs i = (j : ℕ) → j < i → (getD pairs j 0 % 256 ≡ getD digits (2 * j) 0) × (getD pairs j 0 / 256 ≡ getD digits (2 * j + 1) 0)
+
+module _ (digits pairs : List ℕ) (i : ℕ) (all : allDigits digits ≡ true) where
+  pub paired-more : (p : ℕ) → 2 * i + 1 < length digits → i < length pairs → p ≡ getD digits (2 * i) 0 + 256 * getD digits (2 * i + 1) 0 →
+      Paired digits pairs i → Paired digits (set pairs i p) (i + 1)
+  paired-more p h k e q j l = go (eqb j i) refl
+    where
+      go : (t : Bool) → eqb j i ≡ t → (getD (set pairs i p) j 0 % 256 ≡ getD digits (2 * j) 0) × (getD (set pairs i p) j 0 / 256 ≡ getD digits (2 * j + 1) 0)
+      go true t =
+          let small = no-feed (getD digits (2 * i) 0) (digits-at digits (2 * i) all (omega arith)) in
+          rw (eqb-true j i t, getD-set-same pairs i p 0 k) (omega arith, omega arith)
+      go false t = rw (getD-set-other pairs i j p 0 (eqb-false j i t)) (let n = eqb-false j i t in q j (omega (arith, n)))
+
+  pub pair-digits : i < 8 → length digits ≡ 16 → Paired digits pairs 8 → (digit (getD pairs i 0 % 256) < 16) × (digit (getD pairs i 0 / 256) < 16)
+  pair-digits h n q =
+      let p = q i h in
+      (rw (p .0) (digits-at digits (2 * i) all (omega arith)), rw (p .1) (digits-at digits (2 * i + 1) all (omega arith)))
+
+  pub pair-byte : (b : ℕ) → i < 8 → Paired digits pairs 8 → b ≡ 16 * digit (getD pairs i 0 % 256) + digit (getD pairs i 0 / 256) →
+      b ≡ 16 * digit (getD digits (2 * i) 0) + digit (getD digits (2 * i + 1) 0)
+  pair-byte b h q e = let p = q i h in rw (← p .0, ← p .1) e

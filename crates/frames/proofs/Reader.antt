@@ -1,6 +1,6 @@
 -- Reading, line by line, over plain numbers and lists: a frame's parts, what a line decides, and what holds between two lines.
 use Prim.Native.Nat.{ℕ, zero, suc, _+_, _-_, _*_, _/_, _%_, _≤_, _<_}
-use native.Mathlib.Nat.{not-suc-le-zero}
+use native.Mathlib.Nat.{add-zero, not-suc-le-zero}
 use native.Mathlib.Numerals.{add-one}
 use native.Mathlib.Omega.{arith}
 use mathlib.Core.Bool.{Bool, true, false, cond, not, _&&_, false≢true}
@@ -14,9 +14,9 @@ use Rattle.meaning.specs.Checks.{answer, first}
 use Rattle.meaning.specs.Frames.{linesOf, allDigits, hexadecimal, numeral, kind, body, sized, follows, wellFormed}
 use Rattle.meaning.specs.Frames.{Input, nothing, added, ofLine, Reading, reading, readingOf}
 use Rattle.frames.specs.declared.Gathered.{Gathered}
-use Rattle.frames.specs.Text.{lineLength, laid}
-use Rattle.frames.specs.Gathered.{inputIn, readingIn, Filled, refusedAs, overIn}
-use Rattle.frames.proofs.Laws.{first-line, length-body, length-laid, take-laid, drop-laid, no-lines}
+use Rattle.frames.specs.Text.{lineLength, digitsLength, laid}
+use Rattle.frames.specs.Gathered.{inputIn, readingIn, Filled, refusedAs, overIn, own, takenIn}
+use Rattle.frames.proofs.Laws.{both, first-line, length-body, laid-none, length-laid, take-laid, drop-laid, no-lines, no-digit, no-kind, line-is, line-broken}
 
 -- ---- a well-formed frame
 
@@ -27,11 +27,7 @@ pub data Sizes (k n : ℕ) : Type 0 where
   three : k ≡ 3 → n ≡ 56 → Sizes k n
   four : k ≡ 4 → n ≡ 24 → Sizes k n
 
-pub both : (a b : Bool) → a && b ≡ true → (a ≡ true) × (b ≡ true)
-both true b e = (refl, e)
-both false b e = absurd (false≢true e)
-
-sizes : (k n : ℕ) → sized k n ≡ true → Sizes k n
+pub sizes : (k n : ℕ) → sized k n ≡ true → Sizes k n
 unfolding sized
 sizes k n e = go1 (eqb k 1) (eqb k 2) (eqb k 3) (eqb k 4) refl refl refl refl e
   where
@@ -59,6 +55,12 @@ bounds (two p q r) = record { some = q; few = r; least = omega arith; most = ome
 bounds (three p q) = record { some = omega arith; few = omega arith; least = omega arith; most = omega arith; numbers = λ e. omega arith }
 bounds (four p q) = record { some = omega arith; few = omega arith; least = omega arith; most = omega arith; numbers = λ e. omega arith }
 
+pub last-kind : {k n : ℕ} → Sizes k n → (k ≡ 1 → ⊥) → (k ≡ 2 → ⊥) → (k ≡ 3 → ⊥) → k ≡ 4
+last-kind (one p n) a b d = absurd (a p)
+last-kind (two p n m) a b d = absurd (b p)
+last-kind (three p n) a b d = absurd (d p)
+last-kind (four p n) a b d = p
+
 -- the last kind is no greater, and 01 comes first
 in-order : (last k : ℕ) → follows last k ≡ true → (last ≤ k) × (k ≡ 1 → last ≡ 0)
 unfolding follows
@@ -76,6 +78,7 @@ pub record Frame (last : ℕ) (line : List ℕ) (k : ℕ) : Type 0 where
   pub is : k ≡ kind line
   pub all : allDigits line ≡ true
   pub even : length line % 2 ≡ 0
+  pub fit : sized k ((length line - 2) / 2) ≡ true
   pub size : Sizes k ((length line - 2) / 2)
   pub rising : last ≤ k
   pub first : k ≡ 1 → last ≡ 0
@@ -93,6 +96,7 @@ module _ (last : ℕ) (line : List ℕ) where
         is = refl;
         all = p .0;
         even = eqb-true (length line % 2) 0 (p .1);
+        fit = rw length-body at (q .1);
         size = rw length-body at (sizes (kind line) (length (body line)) (q .1));
         rising = o .0;
         first = o .1;
@@ -161,6 +165,9 @@ module _ (i last : ℕ) (line : List ℕ) (got : Input) (ls : List (List ℕ)) w
       go false false true = refl
       go false false false = refl
 
+alike : {i j k l : ℕ} {x y : Input} (ls : List (List ℕ)) → i ≡ j → k ≡ l → x ≡ y → reading i k x ls ≡ reading j l y ls
+alike ls e f g = rw (e, f, g)
+
 -- the lines from a place on: the one there, and those after it
 pub lines-here : (s : List ℕ) (at end : ℕ) → at < length s → end ≡ at + lineLength (drop at s) →
     linesOf (drop at s) ≡ take (end - at) (drop at s) ∷ linesOf (drop (end + 1) s)
@@ -172,10 +179,7 @@ lines-here s at end h e =
 
 -- ---- a buffer that a frame adds to
 
--- the bytes that a frame has for a buffer, and how many
-abbrev pub own : ℕ → ℕ → List ℕ → List ℕ
-own k mine line = cond (eqb k mine) (body line) []
-
+-- how many bytes a frame has for a buffer
 pub length-own : (k mine : ℕ) (line : List ℕ) → length (own k mine line) ≡ cond (eqb k mine) ((length line - 2) / 2) 0
 length-own k mine line = go (eqb k mine)
   where
@@ -209,6 +213,52 @@ module _ (limit n : ℕ) (came is w next : List ℕ) (f : Filled limit n came is
 
   pub taken-more : take m next ≡ take n is ++ w
   taken-more = rw (e, counted) (take-laid n is w room)
+
+-- what taking a frame leaves, by its kind
+module _ (kind : ℕ) (line : List ℕ) (got : Gathered) (s v q : List ℕ) where
+  abbrev pub Took : Gathered → List ℕ → List ℕ → List ℕ → Type 0
+  Took r s' v' q' =
+      (r ≡ takenIn kind line got) × ((s' ≡ laid (got .section) (own kind 2 line) s)
+      × ((v' ≡ laid (got .values) (own kind 3 line) v) × (q' ≡ laid (got .records) (own kind 4 line) q)))
+
+  -- the gathered with other numbers and counts
+  abbrev with : (a g x y z : ℕ) → Gathered
+  with a g x y z = record { number = got .number; place = got .place; address = a; gp = g; section = x; values = y; records = z }
+
+  same : {a g x y z a' g' x' y' z' : ℕ} → a' ≡ a → g' ≡ g → x' ≡ x → y' ≡ y → z' ≡ z → with a g x y z ≡ with a' g' x' y' z'
+  same e f l m n = rw (e, f, l, m, n)
+
+  pub took-numbers : kind ≡ 1 → (a g : ℕ) → a ≡ numeral 0 (take 16 (drop 2 line)) → g ≡ numeral 0 (take 16 (drop 18 line)) →
+      Took (with a g (got .section) (got .values) (got .records)) s v q
+  took-numbers k a g e f =
+      rw k (
+        same (sym e) (sym f) (add-zero (got .section)) (add-zero (got .values)) (add-zero (got .records)),
+        (sym (laid-none (got .section) s), (sym (laid-none (got .values) v), sym (laid-none (got .records) q))),
+      )
+
+  pub took-section : kind ≡ 2 → (t : List ℕ) → t ≡ laid (got .section) (body line) s →
+      Took (with (got .address) (got .gp) (got .section + (length line - 2) / 2) (got .values) (got .records)) t v q
+  took-section k t e =
+      rw k (
+        same refl refl refl (add-zero (got .values)) (add-zero (got .records)),
+        (e, (sym (laid-none (got .values) v), sym (laid-none (got .records) q))),
+      )
+
+  pub took-values : kind ≡ 3 → (t : List ℕ) → t ≡ laid (got .values) (body line) v →
+      Took (with (got .address) (got .gp) (got .section) (got .values + (length line - 2) / 2) (got .records)) s t q
+  took-values k t e =
+      rw k (
+        same refl refl (add-zero (got .section)) refl (add-zero (got .records)),
+        (sym (laid-none (got .section) s), (e, sym (laid-none (got .records) q))),
+      )
+
+  pub took-records : kind ≡ 4 → (t : List ℕ) → t ≡ laid (got .records) (body line) q →
+      Took (with (got .address) (got .gp) (got .section) (got .values) (got .records + (length line - 2) / 2)) s v t
+  took-records k t e =
+      rw k (
+        same refl refl (add-zero (got .section)) (add-zero (got .values)) refl,
+        (sym (laid-none (got .section) s), (sym (laid-none (got .values) v), e)),
+      )
 
 -- no buffer is past its limit
 pub record Within (a b d : ℕ) : Type 0 where
@@ -295,76 +345,84 @@ module _ {input s₀ v₀ q₀ : List ℕ} where
       pub bad-here : 0 ≡ cond (wellFormed last (between input at end)) (kind (between input at end)) 0 → record { refusal = answer 17 lines; input = inputIn got s v q } ≡ readingOf input
       bad-here e = sym (bad-line lines last (between input at end) (inputIn got s v q) (linesOf (drop (end + 1) input)) (no-frame-0 last (between input at end) e)) ∙ from-line
 
-      module _ (k : ℕ) (f : Frame last (between input at end) k) (a b d : ℕ)
-          (in-section : a ≡ got .section + cond (eqb k 2) ((length (between input at end) - 2) / 2) 0)
-          (in-values : b ≡ got .values + cond (eqb k 3) ((length (between input at end) - 2) / 2) 0)
-          (in-records : d ≡ got .records + cond (eqb k 4) ((length (between input at end) - 2) / 2) 0) where
-        past-is : past lines last (between input at end) (inputIn got s v q) (linesOf (drop (end + 1) input)) ≡ overIn a b d
+      module _ (k : ℕ) (f : Frame last (between input at end) k) where
+        abbrev line : List ℕ
+        line = between input at end
+
+        abbrev more : Gathered
+        more = takenIn k (between input at end) got
+
+        past-is : past lines last line (inputIn got s v q) (linesOf (drop (end + 1) input)) ≡ overIn (more .section) (more .values) (more .records)
         past-is =
             rw (
               ← f .is,
-              length-with 65536 (got .section) s₀ s k 2 a (between input at end) (now .section) in-section,
-              length-with 57344 (got .values) v₀ v k 3 b (between input at end) (now .values) in-values,
-              length-with 49152 (got .records) q₀ q k 4 d (between input at end) (now .records) in-records,
+              length-with 65536 (got .section) s₀ s k 2 (more .section) line (now .section) refl,
+              length-with 57344 (got .values) v₀ v k 3 (more .values) line (now .values) refl,
+              length-with 49152 (got .records) q₀ q k 4 (more .records) line (now .records) refl,
             )
 
-        decided : cond (ltb (overIn a b d) 3) (record { refusal = answer 1 (overIn a b d); input = inputIn got s v q })
-            (reading (suc lines) (kind (between input at end)) (added (between input at end) (inputIn got s v q)) (linesOf (drop (end + 1) input)))
+        decided : cond (ltb (overIn (more .section) (more .values) (more .records)) 3)
+            (record { refusal = answer 1 (overIn (more .section) (more .values) (more .records)); input = inputIn got s v q })
+            (reading (suc lines) (kind line) (added line (inputIn got s v q)) (linesOf (drop (end + 1) input)))
             ≡ readingOf input
-        decided = rw (← past-is) (sym (good-line lines last (between input at end) (inputIn got s v q) (linesOf (drop (end + 1) input)) (f .formed)) ∙ from-line)
+        decided = rw (← past-is) (sym (good-line lines last line (inputIn got s v q) (linesOf (drop (end + 1) input)) (f .formed)) ∙ from-line)
 
-        pub past-here : (o : ℕ) → o ≡ overIn a b d → o < 3 → record { refusal = answer 1 o; input = inputIn got s v q } ≡ readingOf input
-        past-here o e h = let t : ltb (overIn a b d) 3 ≡ true = lt-ltb (overIn a b d) 3 (rw e at h) in rw e (rw t at decided)
+        module _ (o : ℕ) (judged : o ≡ overIn (more .section) (more .values) (more .records)) where
+          pub past-here : o < 3 → record { refusal = answer 1 o; input = inputIn got s v q } ≡ readingOf input
+          past-here h =
+              let t : ltb (overIn (more .section) (more .values) (more .records)) 3 ≡ true = lt-ltb (overIn (more .section) (more .values) (more .records)) 3 (rw judged at h) in
+              rw judged (rw t at decided)
 
-        -- the state after the line
-        module _ (o : ℕ) (judged : o ≡ overIn a b d) (fits : 3 ≤ o) (to-end : end ≤ length input) (s' v' q' : List ℕ) (address gp : ℕ)
-            (section' : s' ≡ laid (got .section) (own k 2 (between input at end)) s)
-            (values' : v' ≡ laid (got .values) (own k 3 (between input at end)) v)
-            (records' : q' ≡ laid (got .records) (own k 4 (between input at end)) q)
-            (address' : address ≡ cond (eqb k 1) (numeral 0 (take 16 (drop 2 (between input at end)))) (got .address))
-            (gp' : gp ≡ cond (eqb k 1) (numeral 0 (take 16 (drop 18 (between input at end)))) (got .gp)) where
-          abbrev got' : Gathered
-          got' = record { number = 0; place = 0; address = address; gp = gp; section = a; values = b; records = d }
+          -- the state after the line
+          module _ (fits : 3 ≤ o) (to-end : end ≤ length input) (r : Gathered) (s' v' q' : List ℕ) (took : Took k line got s v q r s' v' q') where
+            inside : Within (more .section) (more .values) (more .records)
+            inside = within (more .section) (more .values) (more .records) o judged fits
 
-          inside : Within a b d
-          inside = within a b d o judged fits
+            counted : (n mine : ℕ) → n + cond (eqb k mine) ((length line - 2) / 2) 0 ≡ n + length (own k mine line)
+            counted n mine = ap (λ (x : ℕ). n + x) (sym (length-own k mine line))
 
-          counted : (m n mine : ℕ) → m ≡ n + cond (eqb k mine) ((length (between input at end) - 2) / 2) 0 → m ≡ n + length (own k mine (between input at end))
-          counted m n mine e = e ∙ ap (λ (x : ℕ). n + x) (sym (length-own k mine (between input at end)))
+            -- the second number's digits are all that is left
+            second : cond (eqb k 1) (numeral 0 (drop 18 line)) (got .gp) ≡ more .gp
+            second = go (eqb k 1) refl
+              where
+                go : (t : Bool) → eqb k 1 ≡ t → cond t (numeral 0 (drop 18 line)) (got .gp) ≡ cond t (numeral 0 (take 16 (drop 18 line))) (got .gp)
+                go true e =
+                    let n : length line ≡ 34 = two-numbers last line k f (eqb-true k 1 e) in
+                    ap (numeral 0) (sym (take-all 16 (drop 18 line) (rw length-drop (omega arith))))
+                go false e = refl
 
-          -- the second number's digits are all that is left
-          second : cond (eqb k 1) (numeral 0 (drop 18 (between input at end))) (got .gp) ≡ gp
-          second = sym (gp' ∙ go (eqb k 1) refl)
-            where
-              go : (t : Bool) → eqb k 1 ≡ t → cond t (numeral 0 (take 16 (drop 18 (between input at end)))) (got .gp) ≡ cond t (numeral 0 (drop 18 (between input at end))) (got .gp)
-              go true e =
-                  let n : length (between input at end) ≡ 34 = two-numbers last (between input at end) k f (eqb-true k 1 e) in
-                  ap (numeral 0) (take-all 16 (drop 18 (between input at end)) (rw length-drop (omega arith)))
-              go false e = refl
+            now-added : added line (inputIn got s v q) ≡ inputIn more s' v' q'
+            now-added =
+                rw (
+                  ← f .is,
+                  second,
+                  taken-more 65536 (got .section) s₀ s (own k 2 line) s' (now .section) (more .section) (counted (got .section) 2) (inside .section) (took .1 .0),
+                  taken-more 57344 (got .values) v₀ v (own k 3 line) v' (now .values) (more .values) (counted (got .values) 3) (inside .values) (took .1 .1 .0),
+                  taken-more 49152 (got .records) q₀ q (own k 4 line) q' (now .records) (more .records) (counted (got .records) 4) (inside .records) (took .1 .1 .1),
+                )
 
-          now-added : added (between input at end) (inputIn got s v q) ≡ inputIn got' s' v' q'
-          now-added =
-              rw (
-                ← f .is,
-                ← address',
-                second,
-                taken-more 65536 (got .section) s₀ s (own k 2 (between input at end)) s' (now .section) a (counted a (got .section) 2 in-section) (inside .section) section',
-                taken-more 57344 (got .values) v₀ v (own k 3 (between input at end)) v' (now .values) b (counted b (got .values) 3 in-values) (inside .values) values',
-                taken-more 49152 (got .records) q₀ q (own k 4 (between input at end)) q' (now .records) d (counted d (got .records) 4 in-records) (inside .records) records',
-              )
+            pub next : State input s₀ v₀ q₀ s' v' q' r k (lines + 1) (end + 1)
+            next =
+                let t : ltb (overIn (more .section) (more .values) (more .records)) 3 ≡ false = le-ltb (overIn (more .section) (more .values) (more .records)) 3 (rw judged at fits) in
+                let going : reading (suc lines) (kind line) (added line (inputIn got s v q)) (linesOf (drop (end + 1) input)) ≡ readingOf input = rw t at decided in
+                rw (took .0)
+                (record {
+                  same = alike (linesOf (drop (end + 1) input)) (add-one lines) (f .is) (sym now-added) ∙ going;
+                  number = now .number;
+                  place = now .place;
+                  on = omega arith;
+                  section = filled-more 65536 (got .section) s₀ s (own k 2 line) s' (now .section) (more .section) (counted (got .section) 2) (inside .section) (took .1 .0);
+                  values = filled-more 57344 (got .values) v₀ v (own k 3 line) v' (now .values) (more .values) (counted (got .values) 3) (inside .values) (took .1 .1 .0);
+                  records = filled-more 49152 (got .records) q₀ q (own k 4 line) q' (now .records) (more .records) (counted (got .records) 4) (inside .records) (took .1 .1 .1);
+                  few = one-more last line k f lines (got .section) (got .values) (got .records) (now .few);
+                  kinds = bounds (f .size) .most;
+                })
 
-          pub next : State input s₀ v₀ q₀ s' v' q' got' k (lines + 1) (end + 1)
-          next =
-              let t : ltb (overIn a b d) 3 ≡ false = le-ltb (overIn a b d) 3 (rw judged at fits) in
-              let going : reading (suc lines) (kind (between input at end)) (added (between input at end) (inputIn got s v q)) (linesOf (drop (end + 1) input)) ≡ readingOf input = rw t at decided in
-              record {
-                same = rw (add-one lines, f .is, ← now-added) going;
-                number = refl;
-                place = refl;
-                on = omega arith;
-                section = filled-more 65536 (got .section) s₀ s (own k 2 (between input at end)) s' (now .section) a (counted a (got .section) 2 in-section) (inside .section) section';
-                values = filled-more 57344 (got .values) v₀ v (own k 3 (between input at end)) v' (now .values) b (counted b (got .values) 3 in-values) (inside .values) values';
-                records = filled-more 49152 (got .records) q₀ q (own k 4 (between input at end)) q' (now .records) d (counted d (got .records) 4 in-records) (inside .records) records';
-                few = rw (in-section, in-values, in-records) (one-more last (between input at end) k f lines (got .section) (got .values) (got .records) (now .few));
-                kinds = bounds (f .size) .most;
-              }
+    -- a line that goes on after its digits
+    pub broken-here : (end : ℕ) → at < length input → end ≡ at + digitsLength (drop at input) → (lineLength (drop end input) ≡ 0 → ⊥) →
+        record { refusal = answer 17 lines; input = inputIn got s v q } ≡ readingOf input
+    broken-here end h e n =
+        let k : at + lineLength (drop at input) - at ≡ lineLength (drop at input) = omega arith in
+        let broken : allDigits (between input at (at + lineLength (drop at input))) ≡ false = rw k (line-broken input at end e (omega arith) n) in
+        bad-here (at + lineLength (drop at input)) h refl
+        (no-kind last (between input at (at + lineLength (drop at input))) (no-digit last (between input at (at + lineLength (drop at input))) broken))

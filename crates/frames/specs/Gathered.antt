@@ -1,12 +1,12 @@
 -- What reading answers, with the buffers, as the meaning has it.
 use mathlib.Core.Bool.{cond}
-use mathlib.Core.List.{List}
+use mathlib.Core.List.{List, []}
 use mathlib.Core.Path.{_≡_}
-use Prim.Native.Nat.{ℕ, _≤_}
-use lib.Dec.{ltb}
+use Prim.Native.Nat.{ℕ, _+_, _-_, _/_, _≤_}
+use lib.Dec.{eqb, ltb}
 use lib.ListN.{length, take, drop}
 use Rattle.meaning.specs.Checks.{answer}
-use Rattle.meaning.specs.Frames.{Input, Reading}
+use Rattle.meaning.specs.Frames.{numeral, body, Input, Reading}
 use Rattle.frames.specs.declared.Gathered.{Gathered}
 
 -- The two numbers, and what stands in the used part of each buffer.
@@ -38,3 +38,20 @@ refusedAs number place r =
 -- The place of the first buffer past its limit, by how many bytes the section, the values and the records would have; 3 for none.
 abbrev pub overIn : ℕ → ℕ → ℕ → ℕ
 overIn section values records = cond (ltb 65536 section) 0 (cond (ltb 49152 records) 1 (cond (ltb 57344 values) 2 3))
+
+-- The bytes that a frame has for the buffer of the kind `mine`.
+abbrev pub own : ℕ → ℕ → List ℕ → List ℕ
+own kind mine line = cond (eqb kind mine) (body line) []
+
+-- What is gathered with a frame more: its two numbers, or so many bytes more in its own buffer.
+abbrev pub takenIn : ℕ → List ℕ → Gathered → Gathered
+takenIn kind line r =
+    record {
+      number = r .number;
+      place = r .place;
+      address = cond (eqb kind 1) (numeral 0 (take 16 (drop 2 line))) (r .address);
+      gp = cond (eqb kind 1) (numeral 0 (take 16 (drop 18 line))) (r .gp);
+      section = r .section + cond (eqb kind 2) ((length line - 2) / 2) 0;
+      values = r .values + cond (eqb kind 3) ((length line - 2) / 2) 0;
+      records = r .records + cond (eqb kind 4) ((length line - 2) / 2) 0;
+    }

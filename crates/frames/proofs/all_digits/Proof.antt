@@ -1,34 +1,31 @@
 use borrow.Author.Needs.{needs}
-use mathlib.Core.Path.{_≡_, refl, sym, _∙_}
+use mathlib.Core.Bool.{true, _&&_}
+use mathlib.Core.Path.{_≡_, refl}
 use Prim.Native.Nat.{_-_, _≤_}
 use native.Mathlib.Numerals.{add-one}
-use native.Mathlib.Omega.{arith}
 use lib.ListN.{length, drop}
 use Rattle.meaning.specs.Frames.{allDigits}
-use Rattle.frames.proofs.Laws.{digits-stop, digits-more, digits-end}
+use Rattle.frames.proofs.Laws.{more-digits, done-digits}
 use Rattle.frames.proofs.all_digits.Statement.{statement}
 use Rattle.frames.proofs.all_digits.Tie as tie
 use Rattle.frames.proofs.all_digits.Reads as reads
 use Rattle.frames.proofs.all_digits.Lts as lts
-use Rattle.frames.proofs.digit.Reads as digit-reads
+use Rattle.frames.proofs.is_digit.Reads as is-digit-reads
 
 abbrev Inv-loop : tie.InvT-loop
-Inv-loop line i₀ i = (i ≤ length line) × (allDigits line ≡ allDigits (drop i line))
+Inv-loop piece all₀ i₀ all i = (i ≤ length piece) × (allDigits piece ≡ (all && allDigits (drop i piece)))
 
 abbrev μ-loop : tie.MeasureT-loop
-μ-loop line i₀ i = length line - i
+μ-loop piece all₀ i₀ all i = length piece - i
 
 loop-holds : tie.Need-loop-holds Inv-loop μ-loop
 loop-holds c = (search needs, refl)
 
-shared-slice-read-digit : tie.Need-shared-slice-read-digit Inv-loop μ-loop
-shared-slice-read-digit c = search needs
+shared-slice-read-is-digit : tie.Need-shared-slice-read-is-digit Inv-loop μ-loop
+shared-slice-read-is-digit c = search needs
 
-digit-requires : tie.Need-digit-requires Inv-loop μ-loop
-digit-requires c κs = search needs
-
-returns : tie.Need-returns Inv-loop μ-loop
-returns c = let l = c .before .before .before .before .loop in sym (l .inv .1 ∙ digits-stop (c .before .before .before .before .before .before .args .line .now) (l .i) (c .before .before .before .loop-test .taken) (omega (arith, c .before .digit .ensures)))
+is-digit-requires : tie.Need-is-digit-requires Inv-loop μ-loop
+is-digit-requires c κs = search needs
 
 add-i : tie.Need-add-i Inv-loop μ-loop
 add-i c = search needs
@@ -37,10 +34,12 @@ loop-less : tie.Need-loop-less Inv-loop μ-loop
 loop-less c = search needs
 
 loop-again : tie.Need-loop-again Inv-loop μ-loop
-loop-again c = let l = c .before .before .before .before .loop in (search needs, rw add-one (l .inv .1 ∙ digits-more (c .before .before .before .before .before .before .args .line .now) (l .i) (c .before .before .before .loop-test .taken) (omega (arith, c .before .digit .ensures))))
+loop-again c =
+    let l = c .before .before .before .loop in
+    (search needs, rw add-one (more-digits (c .before .before .before .before .before .args .piece .now) (l .i) (l .all) (c .is-digit .result) (c .before .before .loop-test .taken) (c .is-digit .ensures) (l .inv .1)))
 
-returns-2 : tie.Need-returns-2 Inv-loop μ-loop
-returns-2 c = let l = c .before .loop in sym (l .inv .1 ∙ digits-end (c .before .before .before .args .line .now) (l .i) (c .loop-test .left))
+returns : tie.Need-returns Inv-loop μ-loop
+returns c = let l = c .before .loop in done-digits (c .before .before .before .args .piece .now) (l .i) (l .all) (c .loop-test .left) (l .inv .1)
 
 pub all-digits-spec : {M : Type 1} → statement M
 all-digits-spec =
@@ -49,10 +48,9 @@ all-digits-spec =
     Inv-loop
     μ-loop
     loop-holds
-    shared-slice-read-digit
-    digit-requires
-    returns
+    shared-slice-read-is-digit
+    is-digit-requires
     add-i
     loop-less
     loop-again
-    returns-2)
+    returns)

@@ -9,26 +9,15 @@ use Rattle.frames.proofs.kind_of.Statement.{statement}
 use Rattle.frames.proofs.kind_of.Tie as tie
 use Rattle.frames.proofs.kind_of.Reads as reads
 use Rattle.frames.proofs.kind_of.Lts as lts
-use Rattle.frames.proofs.all_digits.Reads as all-digits-reads
 use Rattle.frames.proofs.byte.Reads as byte-reads
 use Rattle.frames.proofs.follows.Reads as follows-reads
 use Rattle.frames.proofs.sized.Reads as sized-reads
 
-all-digits-requires : tie.Need-all-digits-requires
-all-digits-requires c κs = search needs
-
 returns : tie.Need-returns
-returns c = let a = c .before .before .before .args in no-kind (a .last) (a .line .now) (no-digit (a .last) (a .line .now) (sym (c .before .all-digits .ensures) ∙ not-true (c .before .all-digits .result) (c .if1 .taken)))
-
--- past the first test, the line is digits alone
-all : (c : tie.Else1) → allDigits (c .before .before .before .args .line .now) ≡ true
-all c = sym (c .before .all-digits .ensures) ∙ not-false (c .before .all-digits .result) (c .if1 .left)
+returns c = let a = c .before .before .args in no-kind (a .last) (a .line .now) (odd-digit (a .last) (a .line .now) (c .before .before .pre) (c .if1 .taken))
 
 returns-2 : tie.Need-returns-2
-returns-2 c = let a = c .before .before .before .before .args in no-kind (a .last) (a .line .now) (odd-digit (a .last) (a .line .now) (all (c .before)) (c .if2 .taken))
-
-returns-3 : tie.Need-returns-3
-returns-3 c = let a = c .before .before .before .before .before .args in no-kind (a .last) (a .line .now) (no-frame (a .last) (a .line .now) (c .if3 .taken))
+returns-2 c = let a = c .before .before .before .args in no-kind (a .last) (a .line .now) (no-frame (a .last) (a .line .now) (c .if2 .taken))
 
 shared-slice-read-byte : tie.Need-shared-slice-read-byte
 shared-slice-read-byte c = search needs
@@ -37,7 +26,7 @@ shared-slice-read-byte-2 : tie.Need-shared-slice-read-byte-2
 shared-slice-read-byte-2 c = search needs
 
 byte-requires : tie.Need-byte-requires
-byte-requires c κs = let s = c .before .before .before .before .before .before .before .args .line .now in (digits-at s 0 (all (c .before .before .before .before)) (omega arith), digits-at s 1 (all (c .before .before .before .before)) (omega arith))
+byte-requires c κs = let s = c .before .before .before .before .before .args .line .now in (digits-at s 0 (c .before .before .before .before .before .pre) (omega arith), digits-at s 1 (c .before .before .before .before .before .pre) (omega arith))
 
 sub-sized : tie.Need-sub-sized
 sub-sized c = search needs
@@ -45,42 +34,40 @@ sub-sized c = search needs
 sized-requires : tie.Need-sized-requires
 sized-requires c κs = search needs
 
-returns-4 : tie.Need-returns-4
-returns-4 c =
-    let a = c .before .before .before .before .before .before .before .before .before .before .args in
+returns-3 : tie.Need-returns-3
+returns-3 c =
+    let a = c .before .before .before .before .before .before .before .before .args in
     no-kind (a .last) (a .line .now)
-    (not-sized (a .last) (a .line .now) (c .before .before .byte .result) (all (c .before .before .before .before .before .before .before)) (c .before .before .before .before .before .before .if2 .left) (omega arith) (c .before .before .byte .ensures) (sym (c .before .sized .ensures) ∙ not-true (c .before .sized .result) (c .if4 .taken)))
+    (not-sized (a .last) (a .line .now) (c .before .before .byte .result) (c .before .before .before .before .before .before .before .before .pre) (c .before .before .before .before .before .before .if1 .left) (omega arith) (c .before .before .byte .ensures) (sym (c .before .sized .ensures) ∙ not-true (c .before .sized .result) (c .if3 .taken)))
 
 follows-requires : tie.Need-follows-requires
 follows-requires c κs = search needs
 
+returns-4 : tie.Need-returns-4
+returns-4 c =
+    let a = c .before .before .before .before .before .before .before .before .before .before .args in
+    no-kind (a .last) (a .line .now)
+    (not-following (a .last) (a .line .now) (c .before .before .before .before .byte .result) (c .before .before .before .before .before .before .before .before .before .before .pre) (c .before .before .before .before .before .before .before .before .if1 .left) (omega arith) (c .before .before .before .before .byte .ensures)
+    (sym (c .before .before .before .sized .ensures) ∙ not-false (c .before .before .before .sized .result) (c .before .before .if3 .left)) (sym (c .before .follows .ensures) ∙ not-true (c .before .follows .result) (c .if4 .taken)))
+
 returns-5 : tie.Need-returns-5
 returns-5 c =
-    let a = c .before .before .before .before .before .before .before .before .before .before .before .before .args in
-    no-kind (a .last) (a .line .now)
-    (not-following (a .last) (a .line .now) (c .before .before .before .before .byte .result) (all (c .before .before .before .before .before .before .before .before .before)) (c .before .before .before .before .before .before .before .before .if2 .left) (omega arith) (c .before .before .before .before .byte .ensures)
-    (sym (c .before .before .before .sized .ensures) ∙ not-false (c .before .before .before .sized .result) (c .before .before .if4 .left)) (sym (c .before .follows .ensures) ∙ not-true (c .before .follows .result) (c .if5 .taken)))
-
-returns-6 : tie.Need-returns-6
-returns-6 c =
-    let a = c .before .before .before .before .before .before .before .before .before .before .before .before .args in
-    its-kind (a .last) (a .line .now) (c .before .before .before .before .byte .result) (all (c .before .before .before .before .before .before .before .before .before)) (c .before .before .before .before .before .before .before .before .if2 .left) (omega arith) (c .before .before .before .before .byte .ensures)
-    (sym (c .before .before .before .sized .ensures) ∙ not-false (c .before .before .before .sized .result) (c .before .before .if4 .left)) (sym (c .before .follows .ensures) ∙ not-false (c .before .follows .result) (c .if5 .left))
+    let a = c .before .before .before .before .before .before .before .before .before .before .args in
+    its-kind (a .last) (a .line .now) (c .before .before .before .before .byte .result) (c .before .before .before .before .before .before .before .before .before .before .pre) (c .before .before .before .before .before .before .before .before .if1 .left) (omega arith) (c .before .before .before .before .byte .ensures)
+    (sym (c .before .before .before .sized .ensures) ∙ not-false (c .before .before .before .sized .result) (c .before .before .if3 .left)) (sym (c .before .follows .ensures) ∙ not-false (c .before .follows .result) (c .if4 .left))
 
 pub kind-of-spec : {M : Type 1} → statement M
 kind-of-spec =
     tie.close
     (tie.spec
-    all-digits-requires
     returns
     returns-2
-    returns-3
     shared-slice-read-byte
     shared-slice-read-byte-2
     byte-requires
     sub-sized
     sized-requires
-    returns-4
+    returns-3
     follows-requires
-    returns-5
-    returns-6)
+    returns-4
+    returns-5)

@@ -11,7 +11,7 @@ use Rattle.frames.proofs.number.Statement.{statement}
 use Rattle.frames.proofs.number.Tie as tie
 use Rattle.frames.proofs.number.Reads as reads
 use Rattle.frames.proofs.number.Lts as lts
-use Rattle.frames.proofs.digit.Reads as digit-reads
+use Rattle.frames.proofs.value.Reads as value-reads
 
 abbrev Inv-loop : tie.InvT-loop
 Inv-loop line at x₀ i₀ x i = (i ≤ 16) × (numeral 0 (take 16 (drop at line)) ≡ numeral x (take (16 - i) (drop (at + i) line))) × (x < 2 ^ (4 * i))
@@ -25,20 +25,22 @@ loop-holds c = (search needs, numeral-start (c .before .args .at) (c .before .ar
 mul-x : tie.Need-mul-x Inv-loop μ-loop
 mul-x c = omega (arith, digit-room (c .before .loop .i) (c .before .loop .x) (c .loop-test .taken) (c .before .loop .inv .2))
 
-add-digit : tie.Need-add-digit Inv-loop μ-loop
-add-digit c = search needs
+add-value : tie.Need-add-value Inv-loop μ-loop
+add-value c = search needs
 
-shared-slice-read-digit : tie.Need-shared-slice-read-digit Inv-loop μ-loop
-shared-slice-read-digit c = search needs
+shared-slice-read-value : tie.Need-shared-slice-read-value Inv-loop μ-loop
+shared-slice-read-value c = search needs
 
-digit-requires : tie.Need-digit-requires Inv-loop μ-loop
-digit-requires c κs = search needs
+value-requires : tie.Need-value-requires Inv-loop μ-loop
+value-requires c κs =
+    let a = c .before .before .before .before .args in
+    digits-at (a .line .now) (a .at + c .before .before .loop .i) (c .before .before .before .before .pre .1) (omega arith)
 
 -- what was read at the place is a digit
-small : (c : tie.After-digit Inv-loop μ-loop) → c .digit .result < 16
+small : (c : tie.After-value Inv-loop μ-loop) → c .value .result < 16
 small c =
     let a = c .before .before .before .before .before .args in
-    omega (arith, c .digit .ensures, digits-at (a .line .now) (a .at + c .before .before .before .loop .i) (c .before .before .before .before .before .pre .1) (omega arith))
+    omega (arith, c .value .ensures, digits-at (a .line .now) (a .at + c .before .before .before .loop .i) (c .before .before .before .before .before .pre .1) (omega arith))
 
 cast-x : tie.Need-cast-x Inv-loop μ-loop
 cast-x c = search needs
@@ -56,10 +58,10 @@ loop-again : tie.Need-loop-again Inv-loop μ-loop
 loop-again c =
     let l = c .before .before .before .loop in
     let a = c .before .before .before .before .before .args in
-    let e : c .digit .result ≡ digit (getD (a .line .now) (a .at + l .i) 0) = c .digit .ensures in (
+    let e : c .value .result ≡ digit (getD (a .line .now) (a .at + l .i) 0) = c .value .ensures in (
       search needs,
-      numeral-next (l .x) (l .i) (a .at) (c .digit .result) (a .line .now) (c .before .before .loop-test .taken) (omega arith) e (l .inv .1),
-      rw add-one (digit-fits (l .i) (l .x) (c .digit .result) (l .inv .2) (small c)),
+      numeral-next (l .x) (l .i) (a .at) (c .value .result) (a .line .now) (c .before .before .loop-test .taken) (omega arith) e (l .inv .1),
+      rw add-one (digit-fits (l .i) (l .x) (c .value .result) (l .inv .2) (small c)),
     )
 
 returns : tie.Need-returns Inv-loop μ-loop
@@ -73,9 +75,9 @@ number-spec =
     μ-loop
     loop-holds
     mul-x
-    add-digit
-    shared-slice-read-digit
-    digit-requires
+    add-value
+    shared-slice-read-value
+    value-requires
     cast-x
     add-x
     add-i
