@@ -4,7 +4,7 @@
 #   make test            the archive against an independent C implementation; and the program's frames, where tests/frames/run is
 #   make example         builds and runs host/example.c
 #   make bench           instructions per record, code size and stack, beside plain C
-#   make bench-program   instructions of the program on the largest input (x86-64 only)
+#   make bench-program   instructions of the program on full buffers, beside plain C that does the same (x86-64 only)
 #   make install         header, archive, program and pkg-config file, under PREFIX (and DESTDIR)
 #   make clean           removes what the C side built; what rt proved and compiled stays (make distclean removes it too)
 #
@@ -116,8 +116,12 @@ $(OUT)/bench: bench/bench.c bench/plain.h $(OUT)/plain.o $(ARCHIVE) $(OUT)/linke
 bench: test-plain $(OUT)/bench
 	RT=$(RT) bench/run $(OUT)/bench $(ARCHIVE) $(OUT)/plain.o
 
-bench-program: target/bin/patcher
-	bench/program $<
+$(OUT)/frames: bench/frames.c bench/plain.h $(OUT)/plain.o $(ARCHIVE) $(OUT)/linked-with | compiler $(OUT)
+	$(COMPILE) bench/frames.c $(OUT)/plain.o $(ARCHIVE) $(LINK) -o $@
+
+bench-program: target/bin/patcher $(OUT)/frames
+	PATCHER=$(OUT)/frames tests/frames/run plain
+	bench/program target/bin/patcher $(OUT)/frames
 
 # ---- Installation ----
 
