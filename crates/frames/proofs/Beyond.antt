@@ -1,22 +1,21 @@
 -- An input's first 550,055 bytes decide its output. The longest good input has 549,923: the 01 line of 35, each section byte in a line of its
 -- own of 5, 1,024 rows of 115 and 2,048 records of 51. Of a line that begins after those, 132 bytes are enough: none so long is a frame.
-use Prim.Native.Nat.{ℕ, zero, suc, _+_, _-_, _*_, _/_, _%_, _≤_, _<_}
+use Prim.Native.Nat.{ℕ, zero, suc, _+_, _-_, _*_, _/_, _≤_, _<_}
 use native.Mathlib.Nat.{not-suc-le-zero, le-of-suc-le-suc}
 use native.Mathlib.Omega.{arith}
 use mathlib.Core.Bool.{Bool, true, false, cond}
 use mathlib.Core.List.{List, [], _∷_, _++_}
 use mathlib.Core.Logic.{_⊎_, inl, inr, ⊎-elim}
-use mathlib.Core.Path.{_≡_, refl, sym, ap, _∙_, subst}
+use mathlib.Core.Path.{_≡_, refl, sym, ap, _∙_}
 use borrow.Author.Tests.{ltb-true, ltb-false}
 use lib.Dec.{eqb, ltb}
-use lib.ListN.{length, take, drop, length-append, length-take, length-drop}
+use lib.ListN.{length, take, drop, length-append, length-drop}
 use lib.Seq.{take-nil, take-take, length-take-le}
 use Rattle.meaning.specs.Checks.{answer}
-use Rattle.meaning.specs.Frames.{linesOf, kind, body, wellFormed, Input, nothing, added, Reading, reading, readingOf, outputFor, outputOf}
+use Rattle.meaning.specs.Frames.{linesOf, kind, body, wellFormed, Input, nothing, added, reading, readingOf, outputFor, outputOf}
 use Rattle.frames.specs.Text.{lineLength}
-use Rattle.frames.specs.Gathered.{overIn}
-use Rattle.frames.proofs.Laws.{first-line, length-body}
-use Rattle.frames.proofs.Reader.{Sizes, one, two, three, four, Bounds, bounds, Frame, frame, past, bad-line, good-line, length-own, Within, within}
+use Rattle.frames.proofs.Laws.{first-line}
+use Rattle.frames.proofs.Reader.{Sizes, one, two, three, four, bounds, Frame, frame, past, bad-line, good-line, length-own, Within, within}
 
 -- ---- the first line of a part
 

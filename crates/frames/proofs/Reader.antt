@@ -1,22 +1,22 @@
 -- Reading, line by line, over plain numbers and lists: a frame's parts, what a line decides, and what holds between two lines.
-use Prim.Native.Nat.{ℕ, zero, suc, _+_, _-_, _*_, _/_, _%_, _≤_, _<_}
-use native.Mathlib.Nat.{add-zero, not-suc-le-zero}
+use Prim.Native.Nat.{ℕ, suc, _+_, _-_, _/_, _%_, _≤_, _<_}
+use native.Mathlib.Nat.{add-zero}
 use native.Mathlib.Numerals.{add-one}
 use native.Mathlib.Omega.{arith}
-use mathlib.Core.Bool.{Bool, true, false, cond, not, _&&_, false≢true}
+use mathlib.Core.Bool.{Bool, true, false, cond, _&&_, false≢true}
 use mathlib.Core.List.{List, [], _∷_, _++_}
 use mathlib.Core.Path.{_≡_, refl, sym, ap, _∙_, subst}
-use borrow.Author.Tests.{lt-ltb, le-ltb, eq-eqb, ne-eqb, eqb-true, leb-true, ltb-true, ltb-false}
+use borrow.Author.Tests.{lt-ltb, le-ltb, ne-eqb, eqb-true, leb-true, ltb-false}
 use lib.Dec.{eqb, ltb, leb}
 use lib.ListN.{length, take, drop, length-append, length-drop}
 use lib.Seq.{drop-drop, length-take-le, take-all}
 use Rattle.meaning.specs.Checks.{answer, first}
 use Rattle.meaning.specs.Frames.{linesOf, allDigits, hexadecimal, numeral, kind, body, sized, follows, wellFormed}
-use Rattle.meaning.specs.Frames.{Input, nothing, added, ofLine, Reading, reading, readingOf}
+use Rattle.meaning.specs.Frames.{Input, added, ofLine, reading, readingOf}
 use Rattle.frames.specs.declared.Gathered.{Gathered}
 use Rattle.frames.specs.Text.{lineLength, digitsLength, laid}
 use Rattle.frames.specs.Gathered.{inputIn, readingIn, Filled, refusedAs, overIn, own, takenIn}
-use Rattle.frames.proofs.Laws.{both, first-line, length-body, laid-none, length-laid, take-laid, drop-laid, no-lines, no-digit, no-kind, line-is, line-broken}
+use Rattle.frames.proofs.Laws.{both, first-line, length-body, laid-none, length-laid, take-laid, drop-laid, no-lines, no-digit, no-kind, line-broken}
 
 -- ---- a well-formed frame
 

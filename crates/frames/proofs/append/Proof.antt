@@ -1,11 +1,11 @@
 use borrow.Author.Needs.{needs}
 use borrow.Rule.Slice.PartMut.{putMid}
 use mathlib.Core.Path.{_≡_, refl, ap, _∙_}
-use Prim.Native.Nat.{ℕ, suc, _+_, _-_, _/_, _≤_}
+use Prim.Native.Nat.{ℕ, _+_, _-_, _/_, _≤_}
 use mathlib.Core.List.{List}
 use native.Mathlib.Omega.{arith}
-use lib.ListN.{length, drop, getD, length-set}
-use Rattle.meaning.specs.Frames.{bytesIn, digit}
+use lib.ListN.{length, drop, length-set}
+use Rattle.meaning.specs.Frames.{bytesIn}
 use Rattle.frames.specs.Text.{laid}
 use Rattle.frames.proofs.Laws.{digits-at, digits-part, piece-length, length-laid, part-laid, append-eight, append-more, append-done}
 use Rattle.frames.proofs.append.Statement.{statement}

@@ -1,5 +1,4 @@
-use borrow.Author.Needs.{needs}
-use borrow.Author.Tests.{eq-eqb, ne-eqb, le-leb, lt-leb}
+use borrow.Author.Tests.{ne-eqb, le-leb, lt-leb}
 use Rattle.meaning.specs.Frames.{follows}
 use Rattle.frames.proofs.follows.Statement.{statement}
 use Rattle.frames.proofs.follows.Tie as tie

@@ -1,10 +1,8 @@
 use borrow.Author.Needs.{needs}
-use mathlib.Core.Bool.{Bool, true, false, _&&_, cond}
-use mathlib.Core.Path.{_≡_, sym, _∙_, ap}
+use mathlib.Core.Path.{sym, _∙_}
 use native.Mathlib.Omega.{arith}
 use borrow.Author.Tests.{not-true, not-false}
-use Rattle.meaning.specs.Frames.{allDigits, kind}
-use Rattle.frames.proofs.Laws.{digits-at, no-kind, no-digit, odd-digit, no-frame, kind-of, not-sized, not-following, its-kind}
+use Rattle.frames.proofs.Laws.{digits-at, no-kind, odd-digit, no-frame, not-sized, not-following, its-kind}
 use Rattle.frames.proofs.kind_of.Statement.{statement}
 use Rattle.frames.proofs.kind_of.Tie as tie
 use Rattle.frames.proofs.kind_of.Reads as reads

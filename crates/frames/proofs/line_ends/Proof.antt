@@ -1,5 +1,4 @@
 use borrow.Author.Needs.{needs}
-use mathlib.Core.Path.{sym, _∙_}
 use Rattle.frames.proofs.Laws.{feed-test, no-line-here}
 use Rattle.frames.proofs.line_ends.Statement.{statement}
 use Rattle.frames.proofs.line_ends.Tie as tie

@@ -1,6 +1,5 @@
 use borrow.Author.Needs.{needs}
-use mathlib.Core.Path.{_≡_, refl}
-use native.Mathlib.Omega.{arith}
+use mathlib.Core.Path.{refl}
 use lib.ListN.{length-set}
 use Rattle.frames.proofs.Writer.{line-whole, line-put}
 use Rattle.frames.proofs.put_line.Statement.{statement}

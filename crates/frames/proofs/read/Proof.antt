@@ -10,7 +10,7 @@ use Rattle.meaning.specs.Frames.{readingOf}
 use Rattle.frames.specs.Text.{lineLength}
 use Rattle.frames.specs.Gathered.{readingIn, Filled, takenIn}
 use Rattle.frames.proofs.Laws.{line-is, line-digits}
-use Rattle.frames.proofs.Reader.{Frame, frame-of, long, bounds, between, Within, within, State, Answered, start, stopped, ended, nothing-read, bad-here, broken-here, past-here, next}
+use Rattle.frames.proofs.Reader.{Frame, frame-of, long, between, Within, within, State, Answered, start, stopped, ended, nothing-read, bad-here, broken-here, past-here, next}
 use Rattle.frames.proofs.read.Statement.{statement}
 use Rattle.frames.proofs.read.Tie as tie
 use Rattle.frames.proofs.read.Reads as reads

@@ -1,4 +1,3 @@
-use borrow.Author.Needs.{needs}
 use borrow.Author.Tests.{lt-leb, le-leb}
 use Rattle.frames.proofs.within.Statement.{statement}
 use Rattle.frames.proofs.within.Tie as tie
