@@ -1,7 +1,7 @@
 # Rofteluvi for C programmers.
 #
-#   make                 the archive, and the program `patcher` where its crate is listed (proved and compiled by the Rattle kit, rt)
-#   make test            the archive against an independent C implementation; and the program's frames, where tests/frames/run is
+#   make                 the archive and the program `patcher` (proved and compiled by the Rattle kit, rt)
+#   make test            the archive against an independent C implementation, and the program on the frames of tests/frames
 #   make example         builds and runs host/example.c
 #   make bench           instructions per record, code size and stack, beside plain C
 #   make bench-program   instructions of the program on full buffers, beside plain C that does the same (x86-64 only)
@@ -25,7 +25,7 @@ VERSION := 1.0
 
 LIBRARY := target/staticlib/librofteluvi.a
 ARCHIVE ?= $(LIBRARY)
-PROGRAM := $(if $(shell grep -s '^patcher:' crates.txt),target/bin/patcher)
+PROGRAM := target/bin/patcher
 OUT     := target/host
 
 ifneq ($(filter $(shell uname -m),x86_64 amd64),)
@@ -49,16 +49,23 @@ TEST_H  := $(wildcard tests/host/*.h) include/rofteluvi.h
 # plain.c under the archive's names, to be tested in its place
 AS_ARCHIVE := -Dplain_patch=rofteluvi_patch -Dplain_read_back=rofteluvi_read_back
 
-.PHONY: all test test-plain test-sanitize test-broken example bench bench-program install clean distclean compiler FORCE
+.PHONY: all meaning frames test test-host test-frames test-plain test-sanitize test-broken example bench bench-program install clean distclean compiler FORCE
 .DELETE_ON_ERROR:
 
 all: $(ARCHIVE) $(PROGRAM)
 
-# rt proves again only what has changed.
-$(LIBRARY): FORCE
+# rt proves again only what has changed. Under `make -j2` the frames are proved beside the archive's crates, and the archive is tested
+# while the program is proved; no two of these work on one crate at a time.
+meaning:
+	$(RT) check meaning
+
+frames: meaning
+	$(RT) check output
+
+$(LIBRARY): meaning
 	$(RT) staticlib rofteluvi
 
-target/bin/patcher: FORCE
+$(PROGRAM): frames $(LIBRARY)
 	$(RT) check patcher
 
 FORCE:
@@ -78,9 +85,13 @@ $(OUT)/linked-with: FORCE | $(OUT)
 $(OUT)/host_test: $(TEST_C) $(TEST_H) $(ARCHIVE) $(OUT)/linked-with | compiler $(OUT)
 	$(COMPILE) $(TEST_C) $(ARCHIVE) $(LINK) -o $@
 
-test: $(OUT)/host_test $(PROGRAM)
+test: test-host test-frames
+
+test-host: $(OUT)/host_test
 	$(RUN) $(OUT)/host_test $(SEED) $(CALLS)
-	@if [ -x tests/frames/run ]; then echo tests/frames/run; tests/frames/run; fi
+
+test-frames: $(PROGRAM)
+	tests/frames/run
 
 $(OUT)/plain_test: $(TEST_C) $(TEST_H) bench/plain.c bench/plain.h $(OUT)/linked-with | compiler $(OUT)
 	$(COMPILE) $(AS_ARCHIVE) $(TEST_C) bench/plain.c $(LINK) -o $@
@@ -119,9 +130,9 @@ bench: test-plain $(OUT)/bench
 $(OUT)/frames: bench/frames.c bench/plain.h $(OUT)/plain.o $(ARCHIVE) $(OUT)/linked-with | compiler $(OUT)
 	$(COMPILE) bench/frames.c $(OUT)/plain.o $(ARCHIVE) $(LINK) -o $@
 
-bench-program: target/bin/patcher $(OUT)/frames
+bench-program: $(PROGRAM) $(OUT)/frames
 	PATCHER=$(OUT)/frames tests/frames/run plain
-	bench/program target/bin/patcher $(OUT)/frames
+	bench/program $(PROGRAM) $(OUT)/frames
 
 # ---- Installation ----
 
@@ -134,7 +145,8 @@ install: all
 	    'Version: $(VERSION)' 'Cflags: -I$${includedir}' 'Libs: -L$${libdir} -lrofteluvi' \
 	    >$(DESTDIR)$(PREFIX)/lib/pkgconfig/rofteluvi.pc
 	chmod 644 $(DESTDIR)$(PREFIX)/lib/pkgconfig/rofteluvi.pc
-	if [ -n "$(PROGRAM)" ]; then install -d $(DESTDIR)$(PREFIX)/bin && install -m 755 $(PROGRAM) $(DESTDIR)$(PREFIX)/bin/patcher; fi
+	install -d $(DESTDIR)$(PREFIX)/bin
+	install -m 755 $(PROGRAM) $(DESTDIR)$(PREFIX)/bin/patcher
 
 clean:
 	rm -rf $(OUT)

@@ -1,8 +1,4 @@
--- What the proofs of the functions cite (Laws, Reader, Writer), and three things of their own: document 01's example as a computed test,
--- that an input's first 550,055 bytes decide its output, and that the contracts leave no choice.
-pub mod Example
+-- What the proofs of the functions cite (Laws, Reader), and that the contract of reading leaves no choice.
 pub mod Laws
 pub mod Reader
-pub mod Writer
-pub mod Beyond
 pub mod Unique

@@ -1,5 +1,4 @@
--- Any two results that `read`'s contract allows are equal, for every input: the answer, and every byte of the three buffers. So are any two
--- that `write`'s allows.
+-- Any two results that `read`'s contract allows are equal, for every input: the answer, and every byte of the three buffers.
 use Prim.Native.Nat.{ℕ}
 use native.Mathlib.Omega.{arith}
 use mathlib.Core.List.{List, _++_}
@@ -63,6 +62,3 @@ module _ (input s₀ v₀ q₀ s v q s' v' q' : List ℕ) (r r' : Gathered) (a :
           record { number = r .number; place = r .place; address = r .address; gp = r .gp; section = r .section; values = r .values; records = r .records }
           ≡ r'
       built a b d e f g h = rw (a, b, d, e, f, g, h)
-
-pub same-output : (w came is is' : List ℕ) (r r' : ℕ) → is ≡ w ++ drop r came → r ≡ length w → is' ≡ w ++ drop r' came → r' ≡ length w → (r ≡ r') × (is ≡ is')
-same-output w came is is' r r' e n e' n' = (n ∙ sym n', e ∙ ap (λ (k : ℕ). w ++ drop k came) (n ∙ sym n') ∙ sym e')

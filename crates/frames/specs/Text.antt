@@ -4,7 +4,7 @@ use mathlib.Core.Bool.{cond}
 use mathlib.Core.List.{List, [], _∷_, _++_}
 use lib.Dec.{eqb, ltb}
 use lib.ListN.{length, take, drop}
-use Rattle.meaning.specs.Frames.{digit, digits, digitsOf, line-feed}
+use Rattle.meaning.specs.Frames.{digit}
 
 -- how many bytes stand before the first line feed, or before the end
 unfoldable pub lineLength : List ℕ → ℕ
@@ -19,7 +19,3 @@ digitsLength (b ∷ bs) = cond (ltb (digit b) 16) (suc (digitsLength bs)) 0
 -- the bytes w laid over those of s from a place on; every other byte stays
 unfoldable pub laid : ℕ → List ℕ → List ℕ → List ℕ
 laid at w s = take at s ++ (w ++ drop (at + length w) s)
-
--- one 02 line of output
-abbrev pub frame02 : List ℕ → List ℕ
-frame02 bytes = digits 2 2 ++ (digitsOf bytes ++ line-feed)

@@ -1,13 +1,11 @@
-// The program's text: frames read into lent buffers, and an answer written as text.
+// The program's input: frames read into lent buffers.
 ghost use mathlib.Core.Bool.{true, cond, _&&_};
-ghost use mathlib.Core.List.{[], _++_};
 ghost use mathlib.Core.Path.{_≡_};
 ghost use Prim.Native.Nat.{_+_, _-_, _*_, _/_, _%_, _≤_, _<_};
 ghost use lib.Dec.{eqb, ltb, leb};
 ghost use lib.ListN.{length, take, drop};
-ghost use Rattle.meaning.specs.Checks.{answer};
 ghost use Rattle.meaning.specs.Frames as F;
-ghost use Rattle.frames.specs.Text.{lineLength, digitsLength, laid, frame02};
+ghost use Rattle.frames.specs.Text.{lineLength, digitsLength, laid};
 ghost use Rattle.frames.specs.Gathered.{readingIn, Filled, refusedAs, overIn, own, takenIn};
 
 // The limits of the buffers, in bytes.
@@ -16,8 +14,6 @@ pub const SECTION: usize = 65536;
 pub const VALUES: usize = 57344;
 
 pub const RECORDS: usize = 49152;
-
-// ---- reading
 
 fn within(b: u8, low: u8, high: u8) -> bool
     ensures { λ r. ⌜ r ≡ (leb low b && leb b high) ⌝ }
@@ -382,115 +378,4 @@ pub fn read(input: &[u8], section: &mut [u8], values: &mut [u8], records: &mut [
         return got.refused(17, lines);
     }
     got
-}
-
-// ---- writing
-
-// The longest output: a first line of 11 bytes, and a full section's 1,024 lines of 131.
-pub const OUTPUT: usize = 134155;
-
-fn wide(x: u8) -> u32
-    ensures { λ r. ⌜ r ≡ x ⌝ }
-{
-    x as u32
-}
-
-// The digit for a number below 16. Lower case is written.
-fn digit_for(d: u32) -> u8
-    requires { ⌜ d < 16 ⌝ }
-    ensures { λ r. ⌜ r ≡ F.digitFor d ⌝ }
-{
-    if d < 10 {
-        return (48 + d) as u8;
-    }
-    (97 + (d - 10)) as u8
-}
-
-// Writes the low n digits of x at `at`, the highest first.
-fn put_digits(out: &mut [u8], at: usize, n: usize, x: u32)
-    requires { ⌜ (n ≤ 8) × (at + n ≤ length (now out)) ⌝ }
-    ensures { λ _. ⌜ now (out .exit) ≡ laid at (F.digits n x) (now (out .entry)) ⌝ }
-{
-    let mut to = at;
-    let mut left = n;
-    while 0 < left {
-        left -= 1;
-        out[to] = digit_for((x >> (4 * left)) % 16);
-        to += 1;
-    }
-}
-
-// Writes bytes at `at`, two digits each.
-fn put_bytes(out: &mut [u8], at: usize, bytes: &[u8])
-    requires { ⌜ at + 2 * length (now bytes) ≤ length (now out) ⌝ }
-    ensures { λ _. ⌜ now (out .exit) ≡ laid at (F.digitsOf (now (bytes .entry))) (now (out .entry)) ⌝ }
-{
-    let mut to = at;
-    let mut i = 0;
-    while i < bytes.len() {
-        put_digits(out, to, 2, wide(bytes[i]));
-        to += 2;
-        i += 1;
-    }
-}
-
-// Writes one 02 line, and answers the place after it.
-fn put_line(out: &mut [u8], at: usize, bytes: &[u8]) -> usize
-    requires { ⌜ at + (2 * length (now bytes) + 3) ≤ length (now out) ⌝ }
-    ensures { λ _. ⌜ now (out .exit) ≡ laid at (frame02 (now (bytes .entry))) (now (out .entry)) ⌝ }
-    ensures { λ r. ⌜ r ≡ at + (2 * length (now (bytes .entry)) + 3) ⌝ }
-{
-    put_digits(out, at, 2, 2);
-    put_bytes(out, at + 2, bytes);
-    let end = at + (2 * bytes.len() + 2);
-    out[end] = 10;
-    end + 1
-}
-
-// Where the line of output that starts at `from` ends: after 64 bytes, or at the section's end.
-fn piece_end(from: usize, len: usize) -> usize
-    requires { ⌜ from < len ⌝ }
-    ensures { λ r. ⌜ (from < r) × (r ≤ from + 64) × (r ≤ len) ⌝ }
-    ensures { λ r. ⌜ (r < from + 64 → r ≡ len) ⌝ }
-{
-    if len - from < 64 {
-        return len;
-    }
-    from + 64
-}
-
-// Writes the section as 02 lines of 64 bytes, the last shorter, and answers the place after them.
-fn put_section(out: &mut [u8], at: usize, section: &[u8]) -> usize
-    requires { ⌜ at + length (F.sectionLines (now section)) ≤ length (now out) ⌝ }
-    ensures { λ _. ⌜ now (out .exit) ≡ laid at (F.sectionLines (now (section .entry))) (now (out .entry)) ⌝ }
-    ensures { λ r. ⌜ r ≡ at + length (F.sectionLines (now (section .entry))) ⌝ }
-{
-    let mut to = at;
-    let mut from = 0;
-    while from < section.len() {
-        let end = piece_end(from, section.len());
-        to = put_line(out, to, &section[from..end]);
-        from = end;
-    }
-    to
-}
-
-// Writes the program's output for an answer and a section into the front of `out`, and answers how long it is.
-pub fn write(section: &[u8], number: u32, place: u32, out: &mut [u8]) -> usize
-    requires { ⌜ length (now section) ≤ 65536 ⌝ }
-    requires { ⌜ length (now out) ≡ 134155 ⌝ }
-    ensures { λ r. ⌜ now (out .exit) ≡ F.written (answer number place) (now (section .entry)) ++ drop r (now (out .entry)) ⌝ }
-    ensures { λ r. ⌜ r ≡ length (F.written (answer number place) (now (section .entry))) ⌝ }
-{
-    if number == 0 {
-        put_digits(out, 0, 2, 0);
-        put_digits(out, 2, 8, place);
-        out[10] = 10;
-        return put_section(out, 11, section);
-    }
-    put_digits(out, 0, 2, 255);
-    put_digits(out, 2, 2, number);
-    put_digits(out, 4, 8, place);
-    out[12] = 10;
-    13
 }

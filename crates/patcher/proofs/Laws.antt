@@ -1,8 +1,8 @@
 -- The output for what was read, over plain numbers and lists.
 use Prim.Native.Nat.{ℕ, _+_, _≤_}
 use mathlib.Core.List.{List, _++_}
-use mathlib.Core.Path.{_≡_, refl, sym, ap, _∙_, subst}
-use borrow.Author.Tests.{eq-eqb, ne-eqb}
+use mathlib.Core.Path.{_≡_, sym, ap, _∙_, subst}
+use borrow.Author.Tests.{ne-eqb}
 use native.Mathlib.Omega.{arith}
 use lib.ListN.{length, take, drop, length-append}
 use lib.Seq.{length-take-le}
@@ -10,7 +10,7 @@ use Rattle.meaning.specs.Checks.{Answer, answer}
 use Rattle.meaning.specs.Frames.{written, readingOf, outputFor, outputOf}
 use Rattle.frames.specs.declared.Gathered.{Gathered}
 use Rattle.frames.specs.Gathered.{readingIn, Filled}
-use Rattle.frames.proofs.Beyond.{beyond-no-matter}
+use Rattle.output.proofs.Beyond.{beyond-no-matter}
 use Rattle.patcher.specs.declared.Input.{Input}
 use Rattle.patcher.specs.declared.Input.the-variants.{Bytes}
 use Rattle.patcher.specs.Read.{Within}

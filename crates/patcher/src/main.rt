@@ -13,7 +13,7 @@ ghost use Rattle.patcher.specs.Read.{Within};
 ghost use Rattle.patcher.specs.Output.{Output, outputPatched};
 
 // The first bytes of the input, which decide the answer: those of the longest good input, and so much of a line after them that it cannot be
-// a frame (`beyond-no-matter` of the crate frames). What comes after them is not read.
+// a frame (`beyond-no-matter` of the crate output). What comes after them is not read.
 const INPUT: usize = 550055;
 
 // How much of a buffer was read, up to its end or the input's; or that a read failed.
@@ -74,7 +74,7 @@ fn patch_and_write(
     ensures { λ r. ⌜ Output r (outputPatched (now (section .entry)) (now (records .entry)) (now (values .entry)) address gp) (now (out .entry)) (now (out .exit)) ⌝ }
 {
     let done = patch::patch(section, records, values, address, gp);
-    frames::write(section, number_of(done), place_of(done), out)
+    output::write(section, number_of(done), place_of(done), out)
 }
 
 // The output for an input: its bytes in front of `out`, and how many they are. It is also the output for every longer input whose first
@@ -96,7 +96,7 @@ fn answer(
     let got = frames::read(input, section, values, records);
     let n = got.section;
     if got.number != 0 {
-        return frames::write(&section[..n], got.number, got.place, out);
+        return output::write(&section[..n], got.number, got.place, out);
     }
     let rows = got.values;
     let relas = got.records;
@@ -137,7 +137,7 @@ fn main() {
     let mut section = [0u8; frames::SECTION];
     let mut values = [0u8; frames::VALUES];
     let mut records = [0u8; frames::RECORDS];
-    let mut out = [0u8; frames::OUTPUT];
+    let mut out = [0u8; output::OUTPUT];
     run(
         &mut input,
         &mut section,

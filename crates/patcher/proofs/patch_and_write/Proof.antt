@@ -1,12 +1,12 @@
 use borrow.Author.Needs.{needs}
-use mathlib.Core.Path.{_≡_, ap, _∙_}
+use mathlib.Core.Path.{ap, _∙_}
 use Rattle.meaning.specs.Checks.{Answer}
 use Rattle.patcher.proofs.Laws.{wrote}
 use Rattle.patcher.proofs.patch_and_write.Statement.{statement}
 use Rattle.patcher.proofs.patch_and_write.Tie as tie
 use Rattle.patcher.proofs.patch_and_write.Reads as reads
 use Rattle.patcher.proofs.patch_and_write.Lts as lts
-use Rattle.frames.proofs.write.Reads as write-reads
+use Rattle.output.proofs.write.Reads as write-reads
 use Rattle.patch.proofs.patch.Reads as patch-reads
 use Rattle.patcher.proofs.number_of.Reads as number-of-reads
 use Rattle.patcher.proofs.place_of.Reads as place-of-reads

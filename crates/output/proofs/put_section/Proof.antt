@@ -6,15 +6,15 @@ use Prim.Native.Nat.{ℕ}
 use native.Mathlib.Omega.{arith}
 use lib.ListN.{length, drop}
 use Rattle.meaning.specs.Frames.{sectionLines}
 use Rattle.frames.specs.Text.{laid}
 use Rattle.frames.proofs.Laws.{laid-none}
-use Rattle.frames.proofs.Writer.{section-length, section-laid, section-end}
-use Rattle.frames.proofs.put_section.Statement.{statement}
-use Rattle.frames.proofs.put_section.Tie as tie
-use Rattle.frames.proofs.put_section.Reads as reads
-use Rattle.frames.proofs.put_section.Lts as lts
-use Rattle.frames.proofs.piece_end.Reads as piece-end-reads
-use Rattle.frames.proofs.put_line.Reads as put-line-reads
+use Rattle.output.proofs.Writer.{section-length, section-laid, section-end}
+use Rattle.output.proofs.put_section.Statement.{statement}
+use Rattle.output.proofs.put_section.Tie as tie
+use Rattle.output.proofs.put_section.Reads as reads
+use Rattle.output.proofs.put_section.Lts as lts
+use Rattle.output.proofs.piece_end.Reads as piece-end-reads
+use Rattle.output.proofs.put_line.Reads as put-line-reads
 
 abbrev Inv-loop : tie.InvT-loop
 Inv-loop out₀ at section to₀ from₀ out to from = (from ≤ length section) × (length out ≡ length out₀) × (to + length (sectionLines (drop from section)) ≡ at + length (sectionLines section)) × (laid at (sectionLines section) out₀ ≡ laid to (sectionLines (drop from section)) out)

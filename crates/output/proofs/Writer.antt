@@ -14,8 +14,9 @@ use lib.Seq.{drop-cons, drop-drop, take-all}
 use Rattle.meaning.specs.Numbers.{cut}
 use Rattle.meaning.specs.Checks.{answer}
 use Rattle.meaning.specs.Frames.{digitFor, digits, digitsOf, line-feed, frames02, sectionLines, written}
-use Rattle.frames.specs.Text.{laid, frame02}
+use Rattle.frames.specs.Text.{laid}
+use Rattle.output.specs.Text.{frame02}
 use Rattle.frames.proofs.Laws.{laid-none, laid-cons, laid-append, length-laid}
 
 -- ---- one write after another
 

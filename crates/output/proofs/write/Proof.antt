@@ -5,13 +5,13 @@ use Prim.Native.Nat.{_+_}
 use native.Mathlib.Omega.{arith}
 use lib.ListN.{length, set, length-set}
 use Rattle.meaning.specs.Frames.{digits, line-feed, sectionLines}
-use Rattle.frames.proofs.Writer.{length-digits, section-fits, Front, front-none, front-more, front-feed, front-all, accepted-is, refused-is}
-use Rattle.frames.proofs.write.Statement.{statement}
-use Rattle.frames.proofs.write.Tie as tie
-use Rattle.frames.proofs.write.Reads as reads
-use Rattle.frames.proofs.write.Lts as lts
-use Rattle.frames.proofs.put_digits.Reads as put-digits-reads
-use Rattle.frames.proofs.put_section.Reads as put-section-reads
+use Rattle.output.proofs.Writer.{length-digits, section-fits, Front, front-none, front-more, front-feed, front-all, accepted-is, refused-is}
+use Rattle.output.proofs.write.Statement.{statement}
+use Rattle.output.proofs.write.Tie as tie
+use Rattle.output.proofs.write.Reads as reads
+use Rattle.output.proofs.write.Lts as lts
+use Rattle.output.proofs.put_digits.Reads as put-digits-reads
+use Rattle.output.proofs.put_section.Reads as put-section-reads
 
 put-digits-requires : tie.Need-put-digits-requires
 put-digits-requires c κs = search needs

@@ -1,0 +1,6 @@
+-- What the proofs of the functions cite (Writer), and three things of their own: document 01's example as a computed test, that an input's
+-- first 550,055 bytes decide its output, and that the contract of writing leaves no choice.
+pub mod Example
+pub mod Writer
+pub mod Beyond
+pub mod Unique
