@@ -63,6 +63,7 @@ frames: meaning
 	$(RT) check output
 
 $(LIBRARY): meaning
+	$(RT) check patch back
 	$(RT) staticlib rofteluvi
 
 $(PROGRAM): frames $(LIBRARY)

@@ -25,7 +25,7 @@ use Rattle.table.specs.declared.Row.{Row}
 use Rattle.table.specs.Columns as C
 use Rattle.table.specs.Columns.{classOf, partsOf, rangeOf, rangeNumber, second, columns}
 use Rattle.table.specs.Look.{both, sound-at, fits-at}
-use Rattle.table.specs.Words.{bits-checked}
+use Rattle.table.specs.Words.{bits-fit}
 use Rattle.back.specs.declared.Immediate.the-variants.{Value, Refused}
 use Rattle.back.specs.Immediates.{Reads}
 
@@ -52,15 +52,6 @@ no-word (operation o) h = refl
 no-word (word stack parts range) h = let k : 6 < 5 = h (omega arith) in absurd (omega arith)
 no-word (word (of f) parts range) h = let k : 6 < 6 = h (omega arith) in absurd (omega arith)
 no-word (bytes way n f) h = refl
-
--- ---- refusal 8, with no sum
-
-pub outside-far : (size offset : ℕ) → 4 ≤ size → ltb (size - 4) offset ≡ outside size offset 4
-outside-far size offset h = go (ltb (size - 4) offset) refl
-  where
-    go : (b : Bool) → ltb (size - 4) offset ≡ b → b ≡ ltb size (offset + 4)
-    go true e = let k : size - 4 < offset = ltb-true (size - 4) offset e in sym (lt-ltb size (offset + 4) (omega arith))
-    go false e = let k : offset ≤ size - 4 = ltb-false (size - 4) offset e in sym (le-ltb size (offset + 4) (omega arith))
 
 -- ---- n bits read as signed: half is their top bit, and full is one above them all
 
@@ -250,18 +241,15 @@ module _ (row : Row) (kind : ℕ) (e : row ≡ columns (semantics kind)) where
         (sound-few (partsOf (semantics kind)) (f .parts) (sound-field (semantics kind) (sound-at kind) .0) (f .in-word) (f .in-word2)) in
         lt-of-lt-of-le l (pow-mono p)
 
-    bits-fit : 0 < row .range → (1 ≤ row .bits) × (row .bits < 63)
-    bits-fit h = subst⁻¹ (λ (r : Row). (1 ≤ r .bits) × (r .bits < 63)) e (bits-checked kind (subst (λ (r : Row). 0 < r .range) e h))
-
     pub signed-asks : row .range ≡ 1 → ((1 ≤ row .bits) × (row .bits < 63)) × (b < 2 ^ row .bits)
-    signed-asks h = (bits-fit (omega arith), rw bits-are (lt-of-lt-of-le l (pow-mono (omega arith))))
+    signed-asks h = (bits-fit kind row e (omega arith), rw bits-are (lt-of-lt-of-le l (pow-mono (omega arith))))
 
     pub multiple-asks : row .range ≡ 3 → ((1 ≤ row .bits) × (row .bits < 63)) × (b * 4 < 2 ^ row .bits)
     multiple-asks h =
         let z : lowest (partsOf (semantics kind)) ≡ 2 =
         multiple-zeros (partsOf (semantics kind)) (rangeOf (semantics kind)) (sound-field (semantics kind) (sound-at kind) .1)
         (ap (λ (r : Row). r .range) (sym e) ∙ h) in
-        (bits-fit (omega arith), rw (bits-are, z) (shl-lt (wide (partsOf (semantics kind))) 2 l))
+        (bits-fit kind row e (omega arith), rw (bits-are, z) (shl-lt (wide (partsOf (semantics kind))) 2 l))
 
     pub signed-value : row .range ≡ 1 → (z : ℤ) → mag z < 2 ^ 63 → z ≡ signed (row .bits) b → toZ w64 (ofZ w64 z) ≡ valueBack (semantics kind) held
     signed-value h z f q =

@@ -29,16 +29,6 @@ fn no_word(row: Row, kind: u64) -> bool
     }
 }
 
-// Refusal 8: the word is not wholly inside the section. No sum can wrap here.
-fn outside(size: u64, offset: u64) -> bool
-    ensures { λ r. ⌜ r ≡ C.outside size offset 4 ⌝ }
-{
-    if size < 4 {
-        return true;
-    }
-    size - 4 < offset
-}
-
 // Refusal 9: the word's address is no multiple of 4.
 fn unaligned(address: u64, offset: u64) -> bool
     ensures { λ r. ⌜ r ≡ C.unaligned (N.plus 64 address offset) ⌝ }
@@ -101,7 +91,7 @@ pub fn read_back(section: &[u8], address: u64, offset: u64, kind: u64) -> Immedi
     if no_word(row, kind) {
         return Immediate::Refused(4);
     }
-    if outside(section.len() as u64, offset) {
+    if numbers::outside(section.len() as u64, offset, 4) {
         return Immediate::Refused(8);
     }
     if unaligned(address, offset) {

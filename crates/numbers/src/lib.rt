@@ -1,4 +1,4 @@
-// 64-bit numbers read as signed and back, sums that wrap, shifts, and ranges by width and sign.
+// 64-bit numbers read as signed and back, sums that wrap, shifts, ranges by width and sign, and a place in a section.
 
 ghost use mathlib.Core.Path.{_≡_};
 ghost use Prim.Native.Nat.{_*_, _-_, _%_, _^_, _≤_, _<_};
@@ -7,6 +7,7 @@ ghost use lib.Dec.{eqb};
 ghost use lib.IntN.{pos, negℤ, natAbs};
 ghost use lib.Signed.{shrZ};
 ghost use Rattle.meaning.specs.Numbers as N;
+ghost use Rattle.meaning.specs.Checks as C;
 ghost use Rattle.meaning.specs.Checks.{between};
 
 // The least number whose top bit is set: from here up the bits stand for numbers below 0.
@@ -98,4 +99,16 @@ pub fn multiple_of_4(x: u64) -> bool
     ensures { λ r. ⌜ r ≡ eqb (natAbs (N.signed 64 x) % 4) 0 ⌝ }
 {
     x % 4 == 0
+}
+
+// Refusal 8: n bytes at an offset, 1 or more, are not all inside a section of `size` bytes. No sum can wrap here.
+pub fn outside(size: u64, offset: u64, n: u32) -> bool
+    requires { ⌜ 1 ≤ n ⌝ }
+    ensures { λ r. ⌜ r ≡ C.outside size offset n ⌝ }
+{
+    let count = n as u64;
+    if size < count {
+        return true;
+    }
+    size - count < offset
 }

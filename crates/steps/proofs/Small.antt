@@ -23,7 +23,7 @@ use Rattle.table.specs.Columns.{columns, rangeOf, formulaOf, sumNumber, formula
 use Rattle.meaning.proofs.Sound.{sound}
 use Rattle.table.specs.Look.{both, sound-at, fits-at}
 use Rattle.table.specs.Laws.{class-bytes}
-use Rattle.table.specs.Words.{beyondSigned, beyondUnsigned, no4, range-any, range-signed, range-unsigned, range-multiple, bits-checked}
+use Rattle.table.specs.Words.{beyondSigned, beyondUnsigned, no4, range-any, range-signed, range-unsigned, range-multiple}
 use Rattle.values.specs.Values.{wordAt, sumBy, formulaBy}
 use Rattle.steps.specs.Refusal.{rangeRefusal}
 use Rattle.steps.specs.Step.{asRecord, given}
@@ -33,28 +33,6 @@ pub record-is : (b : List ℕ) (offset info addend : ℕ) → offset ≡ u64 b 0
     asRecord (record { offset = offset; kind = info % 4294967296; symbol = info / 4294967296; addend = addend }) ≡ recordOf b
 record-is b offset info addend p q r =
     λ i. record { offset = p i; type = q i % 4294967296; symbol = q i / 4294967296; addend = r i }
-
--- two tests that say the same
-same-test : (a b c d : ℕ) → (a < b → c < d) → (c < d → a < b) → ltb a b ≡ ltb c d
-same-test a b c d f g = go (ltb a b) (ltb c d) refl refl
-  where
-    go : (t u : Bool) → ltb a b ≡ t → ltb c d ≡ u → t ≡ u
-    go true true e h = refl
-    go false false e h = refl
-    go true false e h = absurd (not-le-of-lt (f (ltb-true a b e)) (ltb-false c d h))
-    go false true e h = absurd (not-le-of-lt (g (ltb-true c d h)) (ltb-false a b e))
-
--- refusal 8, with no sum
-pub outside-short : (size offset n : ℕ) → 1 ≤ n → size < n → true ≡ outside size offset n
-outside-short size offset zero h k = absurd (not-suc-le-zero h)
-outside-short size offset (suc n) h k =
-    let p : size < offset + suc n = omega arith in
-    simp (eqb·suc-zero, lt-ltb size (offset + suc n) p)
-
-pub outside-long : (size offset n : ℕ) → 1 ≤ n → n ≤ size → ltb (size - n) offset ≡ outside size offset n
-outside-long size offset zero h k = absurd (not-suc-le-zero h)
-outside-long size offset (suc n) h k =
-    simp eqb·suc-zero (same-test (size - suc n) offset size (offset + suc n) (λ p. omega arith) (λ p. omega arith))
 
 -- a signed number that is passed on as its bits
 pub passed : (z y : ℤ) → mag z < 2 ^ 63 → z ≡ y → toZ w64 (ofZ w64 z) ≡ y
@@ -72,11 +50,6 @@ missed n t true e h rest = absurd (false≢true (sym h ∙ e))
 -- ---- the range of a type, by its row
 
 module _ (row : Row) (t : ℕ) (is : row ≡ columns (semantics t)) where
-  pub bits-fit : 0 < row .range → (1 ≤ row .bits) × (row .bits < 63)
-  bits-fit h =
-      subst⁻¹ (λ (x : Row). (1 ≤ x .bits) × (x .bits < 63)) is
-      (bits-checked t (subst (λ (x : Row). 0 < x .range) is h))
-
   pub value-fits : row .value < 6
   value-fits = let f : row .value ≤ 5 = subst⁻¹ (λ (x : Row). x .value ≤ 5) is (fits-at t .value) in omega arith
 

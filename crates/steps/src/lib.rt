@@ -54,18 +54,6 @@ pub fn read_record(bytes: &[u8]) -> Record
     }
 }
 
-// Refusal 8: the bytes that a record writes, 1 to 8 of them, are not all inside the section. No sum can wrap here.
-fn outside(size: u64, offset: u64, count: u32) -> bool
-    requires { ⌜ 1 ≤ count ⌝ }
-    ensures { λ r. ⌜ r ≡ C.outside size offset count ⌝ }
-{
-    let n = count as u64;
-    if size < n {
-        return true;
-    }
-    size - n < offset
-}
-
 // The limits by width and sign: 14 where n bits do not hold the value.
 fn beyond_signed(n: u32, x: u64) -> u32
     requires { ⌜ (1 ≤ n) × (n < 63) ⌝ }
@@ -232,7 +220,7 @@ fn stack_word(
     ensures { λ r. ⌜ ((values : List ℕ) → Steps (given (setting .size) values (setting .address) (setting .gp)) (asRecord rela) (semantics (rela .kind))
         (tops (now (entries .entry)) (stack .height)) (now (entries .entry)) r) ⌝ }
 {
-    if outside(setting.size, rela.offset, 4) {
+    if numbers::outside(setting.size, rela.offset, 4) {
         return refused(8, stack);
     }
     if numbers::plus(setting.address, rela.offset) % 4 != 0 {
@@ -259,7 +247,7 @@ fn word(rows: &[[u8; 16]; 101], rela: Record, values: &[u8], setting: Setting, s
     if refusal != 0 {
         return refused(refusal, stack);
     }
-    if outside(setting.size, rela.offset, 4) {
+    if numbers::outside(setting.size, rela.offset, 4) {
         return refused(8, stack);
     }
     if numbers::plus(setting.address, rela.offset) % 4 != 0 {
@@ -288,7 +276,7 @@ fn data(rows: &[[u8; 16]; 101], rela: Record, values: &[u8], setting: Setting, s
         return refused(refusal, stack);
     }
     let row = table::row_of(rows, rela.kind);
-    if outside(setting.size, rela.offset, row.count) {
+    if numbers::outside(setting.size, rela.offset, row.count) {
         return refused(8, stack);
     }
     Done { refusal: 0, stack }

@@ -12,6 +12,7 @@ use Rattle.meaning.specs.Table.{Part, Accepted, from_to_, signed-multiple-of-4,
 use Rattle.meaning.specs.Field.{low, many, at, slice, splice, put, wide, lowest}
 use Rattle.meaning.specs.Checks.{between, beyond, notMultiple}
 use Rattle.meaning.proofs.Sound.{sound, soundParts, holdsRange}
+use Rattle.table.specs.declared.Row.{Row}
 use Rattle.table.specs.Columns.{columns, partsOf, rangeOf, first, second, rangeNumber}
 use Rattle.table.specs.Look.{both, sound-at, fits-at}
 
@@ -141,8 +142,9 @@ module _ (t : ℕ) where
   range-multiple = range-at 3
 
   -- A range that is checked has some bits, and fewer than 63.
-  pub bits-checked : 0 < columns (semantics t) .range → (1 ≤ columns (semantics t) .bits) × (columns (semantics t) .bits < 63)
-  bits-checked h =
-      let e : eqb (columns (semantics t) .range) 0 ≡ false = ne-eqb (columns (semantics t) .range) 0 (λ p. omega arith) in
+  pub bits-fit : (row : Row) → row ≡ columns (semantics t) → 0 < row .range → (1 ≤ row .bits) × (row .bits < 63)
+  bits-fit row is h =
+      let p : 0 < columns (semantics t) .range = rw is at h in
+      let e : eqb (columns (semantics t) .range) 0 ≡ false = ne-eqb (columns (semantics t) .range) 0 (λ z. omega arith) in
       let a = fits-at t in
-      (rw e at (a .some-bits), omega (arith, rw e at (a .few-bits)))
+      rw is (rw e at (a .some-bits), omega (arith, rw e at (a .few-bits)))

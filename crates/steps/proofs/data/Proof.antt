@@ -12,7 +12,7 @@ use Rattle.steps.proofs.data.Statement.{statement}
 use Rattle.steps.proofs.data.Tie as tie
 use Rattle.steps.proofs.data.Reads as reads
 use Rattle.steps.proofs.data.Lts as lts
-use Rattle.steps.proofs.outside.Reads as outside-reads
+use Rattle.numbers.proofs.outside.Reads as outside-reads
 use Rattle.steps.proofs.refused.Reads as refused-reads
 use Rattle.steps.proofs.value_refusal.Reads as value-refusal-reads
 use Rattle.table.proofs.row_of.Reads as row-of-reads

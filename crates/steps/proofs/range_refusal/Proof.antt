@@ -1,7 +1,8 @@
 use native.Mathlib.Omega.{arith}
 use mathlib.Core.Path.{_≡_}
 use Rattle.meaning.specs.Numbers.{signed}
-use Rattle.steps.proofs.Small.{bits-fit, last-range, any-refusal, signed-refusal, unsigned-refusal, multiple-refusal}
+use Rattle.table.specs.Words.{bits-fit}
+use Rattle.steps.proofs.Small.{last-range, any-refusal, signed-refusal, unsigned-refusal, multiple-refusal}
 use Rattle.steps.proofs.range_refusal.Statement.{statement}
 use Rattle.steps.proofs.range_refusal.Tie as tie
 use Rattle.steps.proofs.range_refusal.Reads as reads
@@ -14,13 +15,13 @@ three : (c : tie.At-match-rest) → c .before .args .row .range ≡ 3
 three c = last-range (c .before .args .row) (c .before .args .kind) (c .before .pre) (c .match .rest .0 .0 .1) (c .match .rest .0 .1) (c .match .rest .1)
 
 beyond-signed-requires : tie.Need-beyond-signed-requires
-beyond-signed-requires c κs = bits-fit (c .before .args .row) (c .before .args .kind) (c .before .pre) (omega (arith, c .match .keys2))
+beyond-signed-requires c κs = bits-fit (c .before .args .kind) (c .before .args .row) (c .before .pre) (omega (arith, c .match .keys2))
 
 beyond-unsigned-requires : tie.Need-beyond-unsigned-requires
-beyond-unsigned-requires c κs = bits-fit (c .before .args .row) (c .before .args .kind) (c .before .pre) (omega (arith, c .match .keys3))
+beyond-unsigned-requires c κs = bits-fit (c .before .args .kind) (c .before .args .row) (c .before .pre) (omega (arith, c .match .keys3))
 
 beyond-multiple-requires : tie.Need-beyond-multiple-requires
-beyond-multiple-requires c κs = bits-fit (c .before .args .row) (c .before .args .kind) (c .before .pre) (omega (arith, three c))
+beyond-multiple-requires c κs = bits-fit (c .before .args .kind) (c .before .args .row) (c .before .pre) (omega (arith, three c))
 
 returns : tie.Need-returns
 returns c = any-refusal (c .before .args .row) (c .before .args .kind) (c .before .pre) (c .match .keys1) (signed 64 (c .before .args .x))

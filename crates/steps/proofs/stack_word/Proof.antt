@@ -15,7 +15,7 @@ use Rattle.steps.proofs.stack_word.Lts as lts
 use Rattle.numbers.proofs.bits.Reads as bits-reads
 use Rattle.numbers.proofs.plus.Reads as plus-reads
 use Rattle.stack.proofs.Stack.take.Reads as take-reads
-use Rattle.steps.proofs.outside.Reads as outside-reads
+use Rattle.numbers.proofs.outside.Reads as outside-reads
 use Rattle.steps.proofs.range_refusal.Reads as range-refusal-reads
 use Rattle.steps.proofs.refused.Reads as refused-reads
 use Rattle.table.proofs.row_of.Reads as row-of-reads

@@ -15,7 +15,7 @@ use Rattle.steps.proofs.word.Reads as reads
 use Rattle.steps.proofs.word.Lts as lts
 use Rattle.numbers.proofs.plus.Reads as plus-reads
 use Rattle.steps.proofs.evaluate.Reads as evaluate-reads
-use Rattle.steps.proofs.outside.Reads as outside-reads
+use Rattle.numbers.proofs.outside.Reads as outside-reads
 use Rattle.steps.proofs.range_refusal.Reads as range-refusal-reads
 use Rattle.steps.proofs.refused.Reads as refused-reads
 use Rattle.steps.proofs.value_refusal.Reads as value-refusal-reads
