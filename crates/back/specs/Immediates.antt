@@ -1,5 +1,4 @@
 -- The code's immediates by document 01's numbers.
-use Prim.Native.Nat.{ℕ}
 use mathlib.Core.Path.{_≡_}
 use lib.IntN.{pos}
 use Rattle.meaning.specs.ReadBack as R

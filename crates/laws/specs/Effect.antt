@@ -1,8 +1,7 @@
 -- What one record leaves as it was: the section's length, every byte outside its place, and that the bytes are bytes.
 use Prim.Native.Nat.{ℕ, zero, suc, _+_, _<_, _≤_}
-use native.Mathlib.Omega.{arith}
 use mathlib.Core.Bool.{false}
-use mathlib.Core.List.{List, [], _∷_, _++_}
+use mathlib.Core.List.{List}
 use mathlib.Core.Logic.{_⊎_}
 use mathlib.Core.Path.{_≡_, refl, subst⁻¹}
 use borrow.Author.Tests.{ltb-false}

@@ -1,15 +1,11 @@
 -- Replacing n bytes at a place: the length stays, every other byte stays, and the bytes stay bytes.
 use Prim.Native.Nat.{ℕ, zero, suc, _+_, _-_, _<_, _≤_}
-use native.Mathlib.Nat.{add-sub-of-le, add-comm}
 use native.Mathlib.Omega.{arith}
 use mathlib.Core.List.{List, [], _∷_, _++_}
-use mathlib.Core.Logic.{_⊎_, inl, inr, ⊎-elim}
-use mathlib.Core.Path.{_≡_, refl, sym, ap, _∙_, subst, subst⁻¹}
-use lib.ListN.{length, take, drop, getD, length-append, length-take, length-drop, List·getD-append, take-append-drop}
+use mathlib.Core.Logic.{_⊎_, inl, inr}
+use mathlib.Core.Path.{_≡_, ap, _∙_, subst}
+use lib.ListN.{length, take, drop, getD, length-append, length-drop, List·getD-append}
 use lib.Seq.{length-take-le, getD-take, getD-drop, getD-append-add, take-at, drop-at}
-use Rattle.meaning.specs.Numbers.{bytesOf, number}
-use Rattle.meaning.specs.Patch.{replaced}
-use Rattle.lemmas.specs.Bytes.{length-bytesOf, bytesOf-bytes}
 
 -- each element is a byte
 abbrev pub Bytes : List ℕ → Type 0

@@ -1,7 +1,7 @@
 -- What a call leaves in the section, refused or accepted.
-use Prim.Native.Nat.{ℕ, zero, suc, _+_, _/_, _<_, _≤_}
-use mathlib.Core.Bool.{Bool, true, false, cond}
-use mathlib.Core.List.{List, [], _∷_, _++_, map}
+use Prim.Native.Nat.{ℕ, suc, _+_, _/_, _<_, _≤_}
+use mathlib.Core.Bool.{Bool, true, false}
+use mathlib.Core.List.{List, [], _∷_}
 use mathlib.Core.Logic.{_⊎_}
 use mathlib.Core.Path.{_≡_, refl, sym, ap, _∙_, subst, subst⁻¹}
 use borrow.Author.Tests.{eq-eqb, ne-eqb, eqb-true}
@@ -11,7 +11,7 @@ use Rattle.meaning.specs.Numbers.{cut}
 use Rattle.meaning.specs.Table.{Semantics, semantics}
 use Rattle.meaning.specs.Call.{Setting, Record, recordsOf, rowsOf, recordOf}
 use Rattle.meaning.specs.Stack.{Stack, after}
-use Rattle.meaning.specs.Checks.{Answer, answer, Check, writes, outside, ofRecord, ofRecords, ofMasks, checks}
+use Rattle.meaning.specs.Checks.{answer, writes, outside, ofRecord, ofRecords, ofMasks, checks}
 use Rattle.meaning.specs.Patch.{setting, answerOf, effect, patched, sectionOf}
 pub use Rattle.lemmas.specs.Pieces.{length-cut}
 use Rattle.laws.specs.First.{Every, Passes, every-left, every-right, zero-passes, first-passed, checks-numbered}

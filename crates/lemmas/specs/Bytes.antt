@@ -1,5 +1,5 @@
 -- Laws of `number` and `bytesOf`, each for every count of bytes.
-use mathlib.Core.Path.{_≡_, _∙_, refl, sym, ap}
+use mathlib.Core.Path.{_≡_, _∙_, refl, ap}
 use mathlib.Core.List.{List, [], _∷_, _++_}
 use Prim.Native.Nat.{ℕ, zero, suc, _+_, _*_, _/_, _%_, _^_, _<_}
 use native.Mathlib.Nat.{add-zero, div-one, le-of-suc-le-suc, not-suc-le-zero}

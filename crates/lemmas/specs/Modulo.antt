@@ -2,7 +2,7 @@
 use Prim.Native.Nat.{ℕ, suc, _+_, _-_, _*_, _/_, _%_, _^_, _≤_, _<_}
 use native.Mathlib.Nat.{add-mul-mod-self-right, div-lt-iff-lt-mul, sub-add-cancel, add-mul, suc-mul, mod-lt, div-add-mod'}
 use native.Mathlib.Omega.{arith}
-use mathlib.Core.Path.{_≡_, refl, sym, ap, _∙_, subst}
+use mathlib.Core.Path.{_≡_, sym, ap, _∙_, subst}
 use lib.Pow.{pow-pos, pow-add, mod-mod-pow}
 use Rattle.meaning.specs.Numbers.{bytesOf, plus, minus}
 use Rattle.lemmas.specs.Bytes.{bytesOf-mod, bytesOf-mod-more}

@@ -1,12 +1,12 @@
 -- Pieces of a buffer by their place: how a loop that counts comes to the list of pieces that the meaning has.
-use Prim.Native.Nat.{ℕ, zero, suc, _+_, _-_, _*_, _/_, _<_, _≤_}
+use Prim.Native.Nat.{ℕ, zero, suc, _+_, _-_, _*_, _<_, _≤_}
 use native.Mathlib.Nat.{add-comm, mul-zero, mul-suc, sub-zero, sub-self, le-of-suc-le-suc, not-suc-le-zero}
 use native.Mathlib.Omega.{arith}
 use mathlib.Core.List.{List, [], _∷_}
-use mathlib.Core.Path.{_≡_, refl, sym, ap, _∙_, subst, subst⁻¹}
+use mathlib.Core.Path.{_≡_, refl, sym, ap, _∙_}
 use lib.ListN.{length, take, drop, getD, length-drop}
 use lib.Seq.{drop-drop, length-take-le}
-use Rattle.meaning.specs.Numbers.{cut, pieces}
+use Rattle.meaning.specs.Numbers.{cut}
 
 -- the piece at a place
 abbrev pub piece : ℕ → List ℕ → ℕ → List ℕ

@@ -1,9 +1,9 @@
 -- That every row's description is sound: a test of a row, computed over the whole table.
-use Prim.Native.Nat.{ℕ, suc, _+_, _-_, _^_}
+use Prim.Native.Nat.{suc, _+_, _-_, _^_}
 use mathlib.Core.Bool.{Bool, true, false, _&&_, _||_}
 use mathlib.Core.List.{List, [], _∷_}
 use lib.Dec.{T, eqb, ltb, leb}
-use lib.IntN.{ℤ, pos, negsuc}
+use lib.IntN.{pos, negsuc}
 use Rattle.meaning.specs.Table.{Part, bits_⋯_to_⋯_, Accepted, from_to_, signed-multiple-of-4, any, Semantics, unnamed, idle, loaders, push, operation, word, bytes, Row, type, table}
 use Rattle.meaning.specs.Field.{many, low, at, wide, lowest}
 

@@ -3,7 +3,7 @@ use Prim.Native.Nat.{ℕ, zero, suc, _+_, _*_, _/_, _%_, _^_}
 use mathlib.Core.Bool.{Bool}
 use mathlib.Core.List.{List, [], _++_, map}
 use lib.Dec.{eqb}
-use lib.ListN.{length, take, drop, getD, replicate}
+use lib.ListN.{take, drop, getD, replicate}
 use Rattle.meaning.specs.Numbers.{number, bytesOf, plus, minus, cleared, pieces}
 use Rattle.meaning.specs.Table.{Value, S, G, PLT, T, IE, GD, Sum, only, with-A, with-GP, Formula, whole, _-PC, pages, far}
 

@@ -1,6 +1,6 @@
 -- Read back: the immediate that a word holds.
-use Prim.Native.Nat.{ℕ, suc, _+_, _*_, _^_}
-use mathlib.Core.Bool.{Bool, true, false, cond, not}
+use Prim.Native.Nat.{ℕ, _+_, _*_, _^_}
+use mathlib.Core.Bool.{true, cond, not}
 use mathlib.Core.List.{List, [], _∷_}
 use lib.Dec.{eqb, ltb}
 use lib.IntN.{ℤ, pos, negsuc}

@@ -1,6 +1,6 @@
 -- The stack: a list of signed numbers, the top first. Taking past its end, which refusal 10 shuts out, gives 0.
 use Prim.Native.Nat.{ℕ, _*_, _%_, _^_}
-use mathlib.Core.Bool.{Bool, true, false, cond}
+use mathlib.Core.Bool.{Bool, false, cond}
 use mathlib.Core.List.{List, [], _∷_, _++_}
 use lib.Bits.{bitAnd}
 use lib.Dec.{eqb}
@@ -8,7 +8,7 @@ use lib.IntN.{ℤ, pos, negsuc, natAbs}
 use lib.ListN.{getD, drop}
 use lib.Signed.{shrZ}
 use Rattle.meaning.specs.Numbers.{plus, minus, signed, bitsOf}
-use Rattle.meaning.specs.Table.{Semantics, unnamed, idle, loaders, push, operation, word, bytes, Source, stack, of}
+use Rattle.meaning.specs.Table.{Semantics, unnamed, idle, loaders, push, operation, word, bytes, stack, of}
 use Rattle.meaning.specs.Table.{Operation, dup, assert, not, sub, sl, sr, add, and, if-else}
 use Rattle.meaning.specs.Call.{Setting, Record, formula}
 

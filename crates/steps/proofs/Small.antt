@@ -1,12 +1,11 @@
 -- Laws of the small tests, over plain numbers.
-use Prim.Native.Nat.{ℕ, zero, suc, _+_, _-_, _/_, _%_, _^_, _≤_, _<_}
-use native.Mathlib.Nat.{not-suc-le-zero, not-le-of-lt}
+use Prim.Native.Nat.{ℕ, zero, suc, _/_, _%_, _^_, _≤_, _<_}
 use native.Mathlib.Omega.{arith}
 use mathlib.Core.Bool.{Bool, true, false, cond, not, _&&_, false≢true}
 use mathlib.Core.List.{List}
 use mathlib.Core.Path.{_≡_, refl, sym, ap, _∙_, subst, subst⁻¹}
-use borrow.Author.Tests.{lt-ltb, ltb-true, ltb-false, eq-eqb, ne-eqb}
-use lib.Dec.{T, ltb, leb, leb→le, eqb·suc-zero}
+use borrow.Author.Tests.{eq-eqb, ne-eqb}
+use lib.Dec.{T, leb, leb→le}
 use lib.IntN.{ℤ}
 use lib.Signed.{mag}
 use mir.Syntax.{w64}
@@ -16,7 +15,7 @@ use Rattle.meaning.specs.Numbers.{pieces}
 use Rattle.meaning.specs.Table.{Sum, only, with-A, with-GP, Formula, whole, _-PC, pages, far, Operation, Semantics, semantics}
 use Rattle.meaning.specs.Call as M
 use Rattle.meaning.specs.Call.{u64, recordOf}
-use Rattle.meaning.specs.Checks.{outside, unaligned}
+use Rattle.meaning.specs.Checks.{unaligned}
 use Rattle.stack.specs.Tops.{operationOf, Operates}
 use Rattle.table.specs.declared.Row.{Row}
 use Rattle.table.specs.Columns.{columns, rangeOf, formulaOf, sumNumber, formulaNumber}

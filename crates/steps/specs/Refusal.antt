@@ -1,6 +1,6 @@
 -- The refusal of one record, as a number: 0 where every check of it passes. Its place is the record's, whatever its number.
 -- For each kind of type: the checks that can fail, in their order, the others passing by themselves.
-use Prim.Native.Nat.{ℕ, suc, _-_, _/_, _≤_}
+use Prim.Native.Nat.{ℕ, suc, _/_, _≤_}
 use native.Mathlib.Nat.{ne-of-gt}
 use native.Mathlib.Omega.{arith}
 use mathlib.Core.Bool.{Bool, true, false, cond}

@@ -2,13 +2,12 @@
 use Prim.Native.Nat.{ℕ, zero, suc, _+_, _≤_, _<_}
 use native.Mathlib.Nat.{add-zero, suc-add, add-suc, zero-add}
 use native.Mathlib.Omega.{arith}
-use mathlib.Core.Bool.{Bool, true, false, _&&_, cond}
+use mathlib.Core.Bool.{Bool, true, _&&_, cond}
 use mathlib.Core.List.{List, [], _∷_}
-use mathlib.Core.Path.{_≡_, refl, ap, subst}
-use borrow.Author.Tests.{eqb-true}
+use mathlib.Core.Path.{_≡_, refl, subst}
 use lib.Dec.{T, eqb, ltb, leb, ltb→lt, leb→le, lit≤}
 use lib.ListN.{length, getD}
-use Rattle.meaning.specs.Table.{Semantics, unnamed, Row, type, table, look, semantics}
+use Rattle.meaning.specs.Table.{Semantics, unnamed, table, semantics}
 use Rattle.meaning.specs.Field.{wide, lowest}
 pub use Rattle.lemmas.specs.Look.{both, every, found, sound-at}
 use Rattle.table.specs.Columns.{columns, partsOf, lineOf, linesFrom, lines}
