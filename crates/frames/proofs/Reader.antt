@@ -15,7 +15,7 @@ use Rattle.meaning.specs.Frames.{linesOf, allDigits, hexadecimal, numeral, kind
 use Rattle.meaning.specs.Frames.{Input, added, ofLine, reading, readingOf}
 use Rattle.frames.specs.declared.Gathered.{Gathered}
 use Rattle.frames.specs.Text.{lineLength, digitsLength, laid}
-use Rattle.frames.specs.Gathered.{inputIn, readingIn, Filled, refusedAs, overIn, own, takenIn}
+use Rattle.frames.specs.Gathered.{inputIn, readingIn, Filled, refusedAs, overIn, own, gatheredWith}
 use Rattle.frames.proofs.Laws.{both, first-line, length-body, laid-none, length-laid, take-laid, drop-laid, no-lines, no-digit, no-kind, line-broken}
 
 -- ---- a well-formed frame
@@ -214,11 +214,11 @@ module _ (limit n : ℕ) (came is w next : List ℕ) (f : Filled limit n came is
   pub taken-more : take m next ≡ take n is ++ w
   taken-more = rw (e, counted) (take-laid n is w room)
 
--- what taking a frame leaves, by its kind
+-- what gathering a frame leaves, by its kind
 module _ (kind : ℕ) (line : List ℕ) (got : Gathered) (s v q : List ℕ) where
-  abbrev pub Took : Gathered → List ℕ → List ℕ → List ℕ → Type 0
-  Took r s' v' q' =
-      (r ≡ takenIn kind line got) × ((s' ≡ laid (got .section) (own kind 2 line) s)
+  abbrev pub Gathers : Gathered → List ℕ → List ℕ → List ℕ → Type 0
+  Gathers r s' v' q' =
+      (r ≡ gatheredWith kind line got) × ((s' ≡ laid (got .section) (own kind 2 line) s)
       × ((v' ≡ laid (got .values) (own kind 3 line) v) × (q' ≡ laid (got .records) (own kind 4 line) q)))
 
   -- the gathered with other numbers and counts
@@ -228,33 +228,33 @@ module _ (kind : ℕ) (line : List ℕ) (got : Gathered) (s v q : List ℕ) wher
   same : {a g x y z a' g' x' y' z' : ℕ} → a' ≡ a → g' ≡ g → x' ≡ x → y' ≡ y → z' ≡ z → with a g x y z ≡ with a' g' x' y' z'
   same e f l m n = rw (e, f, l, m, n)
 
-  pub took-numbers : kind ≡ 1 → (a g : ℕ) → a ≡ numeral 0 (take 16 (drop 2 line)) → g ≡ numeral 0 (take 16 (drop 18 line)) →
-      Took (with a g (got .section) (got .values) (got .records)) s v q
-  took-numbers k a g e f =
+  pub gathers-numbers : kind ≡ 1 → (a g : ℕ) → a ≡ numeral 0 (take 16 (drop 2 line)) → g ≡ numeral 0 (take 16 (drop 18 line)) →
+      Gathers (with a g (got .section) (got .values) (got .records)) s v q
+  gathers-numbers k a g e f =
       rw k (
         same (sym e) (sym f) (add-zero (got .section)) (add-zero (got .values)) (add-zero (got .records)),
         (sym (laid-none (got .section) s), (sym (laid-none (got .values) v), sym (laid-none (got .records) q))),
       )
 
-  pub took-section : kind ≡ 2 → (t : List ℕ) → t ≡ laid (got .section) (body line) s →
-      Took (with (got .address) (got .gp) (got .section + (length line - 2) / 2) (got .values) (got .records)) t v q
-  took-section k t e =
+  pub gathers-section : kind ≡ 2 → (t : List ℕ) → t ≡ laid (got .section) (body line) s →
+      Gathers (with (got .address) (got .gp) (got .section + (length line - 2) / 2) (got .values) (got .records)) t v q
+  gathers-section k t e =
       rw k (
         same refl refl refl (add-zero (got .values)) (add-zero (got .records)),
         (e, (sym (laid-none (got .values) v), sym (laid-none (got .records) q))),
       )
 
-  pub took-values : kind ≡ 3 → (t : List ℕ) → t ≡ laid (got .values) (body line) v →
-      Took (with (got .address) (got .gp) (got .section) (got .values + (length line - 2) / 2) (got .records)) s t q
-  took-values k t e =
+  pub gathers-values : kind ≡ 3 → (t : List ℕ) → t ≡ laid (got .values) (body line) v →
+      Gathers (with (got .address) (got .gp) (got .section) (got .values + (length line - 2) / 2) (got .records)) s t q
+  gathers-values k t e =
       rw k (
         same refl refl (add-zero (got .section)) refl (add-zero (got .records)),
         (sym (laid-none (got .section) s), (e, sym (laid-none (got .records) q))),
       )
 
-  pub took-records : kind ≡ 4 → (t : List ℕ) → t ≡ laid (got .records) (body line) q →
-      Took (with (got .address) (got .gp) (got .section) (got .values) (got .records + (length line - 2) / 2)) s v t
-  took-records k t e =
+  pub gathers-records : kind ≡ 4 → (t : List ℕ) → t ≡ laid (got .records) (body line) q →
+      Gathers (with (got .address) (got .gp) (got .section) (got .values) (got .records + (length line - 2) / 2)) s v t
+  gathers-records k t e =
       rw k (
         same refl refl (add-zero (got .section)) (add-zero (got .values)) refl,
         (sym (laid-none (got .section) s), (sym (laid-none (got .values) v), e)),
@@ -350,7 +350,7 @@ module _ {input s₀ v₀ q₀ : List ℕ} where
         line = between input at end
 
         abbrev more : Gathered
-        more = takenIn k (between input at end) got
+        more = gatheredWith k (between input at end) got
 
         past-is : past lines last line (inputIn got s v q) (linesOf (drop (end + 1) input)) ≡ overIn (more .section) (more .values) (more .records)
         past-is =
@@ -374,7 +374,7 @@ module _ {input s₀ v₀ q₀ : List ℕ} where
               rw judged (rw t at decided)
 
           -- the state after the line
-          module _ (fits : 3 ≤ o) (to-end : end ≤ length input) (r : Gathered) (s' v' q' : List ℕ) (took : Took k line got s v q r s' v' q') where
+          module _ (fits : 3 ≤ o) (to-end : end ≤ length input) (r : Gathered) (s' v' q' : List ℕ) (gathers : Gathers k line got s v q r s' v' q') where
             inside : Within (more .section) (more .values) (more .records)
             inside = within (more .section) (more .values) (more .records) o judged fits
 
@@ -396,24 +396,24 @@ module _ {input s₀ v₀ q₀ : List ℕ} where
                 rw (
                   ← f .is,
                   second,
-                  taken-more 65536 (got .section) s₀ s (own k 2 line) s' (now .section) (more .section) (counted (got .section) 2) (inside .section) (took .1 .0),
-                  taken-more 57344 (got .values) v₀ v (own k 3 line) v' (now .values) (more .values) (counted (got .values) 3) (inside .values) (took .1 .1 .0),
-                  taken-more 49152 (got .records) q₀ q (own k 4 line) q' (now .records) (more .records) (counted (got .records) 4) (inside .records) (took .1 .1 .1),
+                  taken-more 65536 (got .section) s₀ s (own k 2 line) s' (now .section) (more .section) (counted (got .section) 2) (inside .section) (gathers .1 .0),
+                  taken-more 57344 (got .values) v₀ v (own k 3 line) v' (now .values) (more .values) (counted (got .values) 3) (inside .values) (gathers .1 .1 .0),
+                  taken-more 49152 (got .records) q₀ q (own k 4 line) q' (now .records) (more .records) (counted (got .records) 4) (inside .records) (gathers .1 .1 .1),
                 )
 
             pub next : State input s₀ v₀ q₀ s' v' q' r k (lines + 1) (end + 1)
             next =
                 let t : ltb (overIn (more .section) (more .values) (more .records)) 3 ≡ false = le-ltb (overIn (more .section) (more .values) (more .records)) 3 (rw judged at fits) in
                 let going : reading (suc lines) (kind line) (added line (inputIn got s v q)) (linesOf (drop (end + 1) input)) ≡ readingOf input = rw t at decided in
-                rw (took .0)
+                rw (gathers .0)
                 (record {
                   same = alike (linesOf (drop (end + 1) input)) (add-one lines) (f .is) (sym now-added) ∙ going;
                   number = now .number;
                   place = now .place;
                   on = omega arith;
-                  section = filled-more 65536 (got .section) s₀ s (own k 2 line) s' (now .section) (more .section) (counted (got .section) 2) (inside .section) (took .1 .0);
-                  values = filled-more 57344 (got .values) v₀ v (own k 3 line) v' (now .values) (more .values) (counted (got .values) 3) (inside .values) (took .1 .1 .0);
-                  records = filled-more 49152 (got .records) q₀ q (own k 4 line) q' (now .records) (more .records) (counted (got .records) 4) (inside .records) (took .1 .1 .1);
+                  section = filled-more 65536 (got .section) s₀ s (own k 2 line) s' (now .section) (more .section) (counted (got .section) 2) (inside .section) (gathers .1 .0);
+                  values = filled-more 57344 (got .values) v₀ v (own k 3 line) v' (now .values) (more .values) (counted (got .values) 3) (inside .values) (gathers .1 .1 .0);
+                  records = filled-more 49152 (got .records) q₀ q (own k 4 line) q' (now .records) (more .records) (counted (got .records) 4) (inside .records) (gathers .1 .1 .1);
                   few = one-more last line k f lines (got .section) (got .values) (got .records) (now .few);
                   kinds = bounds (f .size) .most;
                 })

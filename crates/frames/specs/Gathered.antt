@@ -44,8 +44,8 @@ abbrev pub own : ℕ → ℕ → List ℕ → List ℕ
 own kind mine line = cond (eqb kind mine) (body line) []
 
 -- What is gathered with a frame more: its two numbers, or so many bytes more in its own buffer.
-abbrev pub takenIn : ℕ → List ℕ → Gathered → Gathered
-takenIn kind line r =
+abbrev pub gatheredWith : ℕ → List ℕ → Gathered → Gathered
+gatheredWith kind line r =
     record {
       number = r .number;
       place = r .place;

@@ -6,7 +6,7 @@ ghost use lib.Dec.{eqb, ltb, leb};
 ghost use lib.ListN.{length, take, drop};
 ghost use Rattle.meaning.specs.Frames as F;
 ghost use Rattle.frames.specs.Text.{lineLength, digitsLength, laid};
-ghost use Rattle.frames.specs.Gathered.{readingIn, Filled, refusedAs, overIn, own, takenIn};
+ghost use Rattle.frames.specs.Gathered.{readingIn, Filled, refusedAs, overIn, own, gatheredWith};
 
 // The limits of the buffers, in bytes.
 pub const SECTION: usize = 65536;
@@ -290,8 +290,8 @@ impl Gathered {
     }
 }
 
-// Takes a frame: the two numbers of kind 1, or the bytes of any other, laid into the one buffer that its kind names.
-fn take(
+// Gathers a frame: the two numbers of kind 1, or the bytes of any other, laid into the one buffer that its kind names.
+fn gather(
     got: Gathered,
     kind: u8,
     line: &[u8],
@@ -304,7 +304,7 @@ fn take(
     requires { ⌜ got .section + cond (eqb kind 2) ((length (now line) - 2) / 2) 0 ≤ length (now section) ⌝ }
     requires { ⌜ got .values + cond (eqb kind 3) ((length (now line) - 2) / 2) 0 ≤ length (now values) ⌝ }
     requires { ⌜ got .records + cond (eqb kind 4) ((length (now line) - 2) / 2) 0 ≤ length (now records) ⌝ }
-    ensures { λ r. ⌜ r ≡ takenIn kind (now (line .entry)) got ⌝ }
+    ensures { λ r. ⌜ r ≡ gatheredWith kind (now (line .entry)) got ⌝ }
     ensures { λ _. ⌜ now (section .exit) ≡ laid (got .section) (own kind 2 (now (line .entry))) (now (section .entry)) ⌝ }
     ensures { λ _. ⌜ now (values .exit) ≡ laid (got .values) (own kind 3 (now (line .entry))) (now (values .entry)) ⌝ }
     ensures { λ _. ⌜ now (records .exit) ≡ laid (got .records) (own kind 4 (now (line .entry))) (now (records .entry)) ⌝ }
@@ -368,7 +368,7 @@ pub fn read(input: &[u8], section: &mut [u8], values: &mut [u8], records: &mut [
             return got.refused(1, over);
         }
         // only now is any of its bytes stored
-        let more = take(got, kind, line, section, values, records);
+        let more = gather(got, kind, line, section, values, records);
         got = more;
         last = kind;
         lines += 1;

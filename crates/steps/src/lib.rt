@@ -13,7 +13,6 @@ ghost use lib.ListN.{length};
 ghost use Rattle.meaning.specs.Table.{semantics};
 ghost use Rattle.meaning.specs.Numbers.{signed};
 ghost use Rattle.meaning.specs.Call as M;
-ghost use Rattle.meaning.specs.Checks as C;
 ghost use Rattle.stack.specs.Tops.{tops, operationOf, Operates};
 ghost use Rattle.table.specs.Words.{beyondSigned, beyondUnsigned, no4};
 ghost use Rattle.table.specs.Columns.{columns, lines, rangeOf, formulaOf};

@@ -8,7 +8,7 @@ use borrow.Author.Tests.{not-true, not-false, eqb-true, eqb-false}
 use lib.ListN.{length, drop}
 use Rattle.meaning.specs.Frames.{readingOf}
 use Rattle.frames.specs.Text.{lineLength}
-use Rattle.frames.specs.Gathered.{readingIn, Filled, takenIn}
+use Rattle.frames.specs.Gathered.{readingIn, Filled, gatheredWith}
 use Rattle.frames.proofs.Laws.{line-is, line-digits}
 use Rattle.frames.proofs.Reader.{Frame, frame-of, long, between, Within, within, State, Answered, start, stopped, ended, nothing-read, bad-here, broken-here, past-here, next}
 use Rattle.frames.proofs.read.Statement.{statement}
@@ -20,7 +20,7 @@ use Rattle.frames.proofs.Gathered.refused.Reads as refused-reads
 use Rattle.frames.proofs.digits_end.Reads as digits-end-reads
 use Rattle.frames.proofs.kind_of.Reads as kind-of-reads
 use Rattle.frames.proofs.line_ends.Reads as line-ends-reads
-use Rattle.frames.proofs.take.Reads as take-reads
+use Rattle.frames.proofs.gather.Reads as gather-reads
 
 abbrev Inv-loop : tie.InvT-loop
 Inv-loop input section₀ values₀ records₀ got₀ last₀ lines₀ at₀ section values records got last lines at = State input section₀ values₀ records₀ section values records got last lines at
@@ -66,7 +66,7 @@ frame-here c = frame-of _ _ (c .before .kind-of .result) (c .before .kind-of .en
 -- past the third, it takes no buffer past its limit
 within-here : (c : tie.Else3 Inv-loop μ-loop) →
     let l = whole (formed (fitting c)) .before in
-    let m = takenIn (fitting c .before .kind-of .result) (between (text l) (l .loop .at) (formed (fitting c) .before .before .digits-end .result)) (l .loop .got) in
+    let m = gatheredWith (fitting c .before .kind-of .result) (between (text l) (l .loop .at) (formed (fitting c) .before .before .digits-end .result)) (l .loop .got) in
     Within (m .section) (m .values) (m .records)
 within-here c = within _ _ _ (c .before .over .result) (c .before .over .ensures) (c .if3 .left)
 
@@ -162,8 +162,8 @@ returns-3 c =
     answered (stopped i 1 (c .before .before .over .result) (c .refused3 .result) (c .refused3 .ensures)
     (past-here i (e .before .before .digits-end .result) (t .loop-test .taken) (line-here e) (f .before .kind-of .result) (frame-here f) (c .before .before .over .result) (c .before .before .over .ensures) (c .before .if3 .taken)))
 
-take-requires : tie.Need-take-requires Inv-loop μ-loop
-take-requires c κs =
+gather-requires : tie.Need-gather-requires Inv-loop μ-loop
+gather-requires c κs =
     let g = c .before .before .before in
     let f = frame-here (fitting g) in
     let w = within-here g in
@@ -196,7 +196,7 @@ loop-again c =
     let t = whole e in
     let d = e .before .before .digits-end in
     next (t .before .loop .inv) (d .result) (t .loop-test .taken) (line-here e) (f .before .kind-of .result) (frame-here f) (g .before .over .result) (g .before .over .ensures) (g .if3 .left) (d .ensures .1) _ _ _ _
-    (c .before .before .before .before .before .before .take .ensures)
+    (c .before .before .before .before .before .before .gather .ensures)
 
 refused-requires-4 : tie.Need-refused-requires-4 Inv-loop μ-loop
 refused-requires-4 c κs = search needs
@@ -257,7 +257,7 @@ read-spec =
     same-length-8
     same-length-9
     returns-3
-    take-requires
+    gather-requires
     add-lines
     add-at
     loop-less

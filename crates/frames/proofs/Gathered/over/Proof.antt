@@ -1,41 +1,69 @@
 use borrow.Author.Needs.{needs}
+use borrow.Author.Tests.{ltb-true, ltb-false, lt-ltb, le-ltb}
+use native.Mathlib.Omega.{arith}
+use Prim.Native.Nat.{ℕ, _+_, _≤_}
+use mathlib.Core.Bool.{cond}
 use mathlib.Core.Path.{sym, _∙_}
+use lib.Dec.{eqb}
 use Rattle.frames.proofs.past.Reads as past-reads
 use Rattle.frames.proofs.Gathered.over.Statement.{statement}
 use Rattle.frames.proofs.Gathered.over.Tie as tie
 use Rattle.frames.proofs.Gathered.over.Reads as reads
 use Rattle.frames.proofs.Gathered.over.Lts as lts
 
+-- how many bytes each buffer would have
+abbrev section : tie.Start → ℕ
+section b = b .args .self .section + cond (eqb (b .args .kind) 2) (b .args .n) 0
+
+abbrev records : tie.Start → ℕ
+records b = b .args .self .records + cond (eqb (b .args .kind) 4) (b .args .n) 0
+
+abbrev values : tie.Start → ℕ
+values b = b .args .self .values + cond (eqb (b .args .kind) 3) (b .args .n) 0
+
 past-requires : tie.Need-past-requires
 past-requires c κs = search needs
 
 returns : tie.Need-returns
-returns c = simp (sym (c .before .past .ensures) ∙ c .if1 .taken)
+returns c =
+    let b = c .before .before in
+    let p = ltb-true _ (section b) (sym (c .before .past .ensures) ∙ c .if1 .taken) in
+    simp (lt-ltb 65536 (section b) (omega arith))
 
 past-requires-2 : tie.Need-past-requires-2
 past-requires-2 c κs = search needs
 
 returns-2 : tie.Need-returns-2
-returns-2 c = simp (sym (c .before .before .before .past .ensures) ∙ c .before .before .if1 .left, sym (c .before .past2 .ensures) ∙ c .if2 .taken)
+returns-2 c =
+    let b = c .before .before .before .before in
+    let p = ltb-false _ (section b) (sym (c .before .before .before .past .ensures) ∙ c .before .before .if1 .left) in
+    let q = ltb-true _ (records b) (sym (c .before .past2 .ensures) ∙ c .if2 .taken) in
+    simp (le-ltb 65536 (section b) (omega arith), lt-ltb 49152 (records b) (omega arith))
 
 past-requires-3 : tie.Need-past-requires-3
 past-requires-3 c κs = search needs
 
+-- past the second test
+two-within : (c : tie.Else2) → (section (c .before .before .before .before) ≤ 65536) × (records (c .before .before .before .before) ≤ 49152)
+two-within c =
+    let b = c .before .before .before .before in
+    let p = ltb-false _ (section b) (sym (c .before .before .before .past .ensures) ∙ c .before .before .if1 .left) in
+    let q = ltb-false _ (records b) (sym (c .before .past2 .ensures) ∙ c .if2 .left) in
+    (omega arith, omega arith)
+
 returns-3 : tie.Need-returns-3
 returns-3 c =
-    simp (
-      sym (c .before .before .before .before .before .past .ensures) ∙ c .before .before .before .before .if1 .left,
-      sym (c .before .before .before .past2 .ensures) ∙ c .before .before .if2 .left,
-      sym (c .before .past3 .ensures) ∙ c .if3 .taken,
-    )
+    let e = c .before .before in
+    let b = e .before .before .before .before in
+    let q = ltb-true _ (values b) (sym (c .before .past3 .ensures) ∙ c .if3 .taken) in
+    simp (le-ltb 65536 (section b) (two-within e .0), le-ltb 49152 (records b) (two-within e .1), lt-ltb 57344 (values b) (omega arith))
 
 returns-4 : tie.Need-returns-4
 returns-4 c =
-    simp (
-      sym (c .before .before .before .before .before .past .ensures) ∙ c .before .before .before .before .if1 .left,
-      sym (c .before .before .before .past2 .ensures) ∙ c .before .before .if2 .left,
-      sym (c .before .past3 .ensures) ∙ c .if3 .left,
-    )
+    let e = c .before .before in
+    let b = e .before .before .before .before in
+    let q = ltb-false _ (values b) (sym (c .before .past3 .ensures) ∙ c .if3 .left) in
+    simp (le-ltb 65536 (section b) (two-within e .0), le-ltb 49152 (records b) (two-within e .1), le-ltb 57344 (values b) (omega arith))
 
 pub over-spec : {M : Type 1} → statement M
 over-spec = tie.close (tie.spec past-requires returns past-requires-2 returns-2 past-requires-3 returns-3 returns-4)

@@ -3,11 +3,11 @@ use Prim.Native.Nat.{_-_, _/_}
 use native.Mathlib.Omega.{arith}
 use mathlib.Core.Path.{_≡_}
 use lib.ListN.{length}
-use Rattle.frames.proofs.Reader.{Sizes, sizes, bounds, last-kind, took-numbers, took-section, took-values, took-records}
-use Rattle.frames.proofs.take.Statement.{statement}
-use Rattle.frames.proofs.take.Tie as tie
-use Rattle.frames.proofs.take.Reads as reads
-use Rattle.frames.proofs.take.Lts as lts
+use Rattle.frames.proofs.Reader.{Sizes, sizes, bounds, last-kind, gathers-numbers, gathers-section, gathers-values, gathers-records}
+use Rattle.frames.proofs.gather.Statement.{statement}
+use Rattle.frames.proofs.gather.Tie as tie
+use Rattle.frames.proofs.gather.Reads as reads
+use Rattle.frames.proofs.gather.Lts as lts
 use Rattle.frames.proofs.append.Reads as append-reads
 use Rattle.frames.proofs.number.Reads as number-reads
 
@@ -31,7 +31,7 @@ number-requires-2 c κs = let b = c .before .before .before .before .before .bef
 returns : tie.Need-returns
 returns c =
     let a = c .before .before .before .before .before .before .before .args in
-    took-numbers (a .kind) (a .line .now) (a .got) (a .section .now) (a .values .now) (a .records .now) (c .before .before .if1 .taken) (c .before .number .result) (c .number2 .result) (c .before .number .ensures) (c .number2 .ensures)
+    gathers-numbers (a .kind) (a .line .now) (a .got) (a .section .now) (a .values .now) (a .records .now) (c .before .before .if1 .taken) (c .before .number .result) (c .number2 .result) (c .before .number .ensures) (c .number2 .ensures)
 
 append-requires : tie.Need-append-requires
 append-requires c κs =
@@ -48,7 +48,7 @@ same-length c = search needs
 returns-2 : tie.Need-returns-2
 returns-2 c =
     let a = c .before .before .before .before .before .before .before .before .before .before .before .args in
-    took-section (a .kind) (a .line .now) (a .got) (a .section .now) (a .values .now) (a .records .now) (c .before .before .before .before .before .if2 .taken) (c .before .before .before .append .last .0) (c .before .before .before .append .ensures)
+    gathers-section (a .kind) (a .line .now) (a .got) (a .section .now) (a .values .now) (a .records .now) (c .before .before .before .before .before .if2 .taken) (c .before .before .before .append .last .0) (c .before .before .before .append .ensures)
 
 append-requires-2 : tie.Need-append-requires-2
 append-requires-2 c κs =
@@ -65,7 +65,7 @@ same-length-2 c = search needs
 returns-3 : tie.Need-returns-3
 returns-3 c =
     let a = c .before .before .before .before .before .before .before .before .before .before .before .before .args in
-    took-values (a .kind) (a .line .now) (a .got) (a .section .now) (a .values .now) (a .records .now) (c .before .before .before .before .before .if3 .taken) (c .before .before .before .append2 .last .0) (c .before .before .before .append2 .ensures)
+    gathers-values (a .kind) (a .line .now) (a .got) (a .section .now) (a .values .now) (a .records .now) (c .before .before .before .before .before .if3 .taken) (c .before .before .before .append2 .last .0) (c .before .before .before .append2 .ensures)
 
 append-requires-3 : tie.Need-append-requires-3
 append-requires-3 c κs =
@@ -82,10 +82,10 @@ same-length-3 c = search needs
 returns-4 : tie.Need-returns-4
 returns-4 c =
     let a = c .before .before .before .before .before .before .before .before .before .before .before .before .args in
-    took-records (a .kind) (a .line .now) (a .got) (a .section .now) (a .values .now) (a .records .now) (fourth (c .before .before .before .before .before)) (c .before .before .before .append3 .last .0) (c .before .before .before .append3 .ensures)
+    gathers-records (a .kind) (a .line .now) (a .got) (a .section .now) (a .values .now) (a .records .now) (fourth (c .before .before .before .before .before)) (c .before .before .before .append3 .last .0) (c .before .before .before .append3 .ensures)
 
-pub take-spec : {M : Type 1} → statement M
-take-spec =
+pub gather-spec : {M : Type 1} → statement M
+gather-spec =
     tie.close
     (tie.spec
     sub-n
