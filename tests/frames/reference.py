@@ -4,6 +4,7 @@
     reference.py < INPUT > OUTPUT      the expected output
     reference.py large NAME            the input of a large case, on standard output
     reference.py large                 the names of the large cases
+    reference.py stored NAME.in...     fails where the NAME.out beside it is not the expected output
 
 Of the relocation types it knows type 0, which does nothing, and type 66, of the paper's example: the tests of the frames need no other.
 """
@@ -156,5 +157,10 @@ if __name__ == "__main__":
         print("\n".join(LARGE))
     elif sys.argv[1:2] == ["large"]:
         sys.stdout.write(LARGE[sys.argv[2]]())
+    elif sys.argv[1:2] == ["stored"]:
+        for name in sys.argv[2:]:
+            with open(name, "rb") as given, open(name[:-2] + "out") as stored:
+                if stored.read() != expected(given.read()):
+                    sys.exit(f"frames: the output stored for {name} is not what reference.py says")
     else:
         sys.stdout.write(expected(sys.stdin.buffer.read()))
