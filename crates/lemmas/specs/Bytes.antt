@@ -5,7 +5,7 @@ use Prim.Native.Nat.{ℕ, zero, suc, _+_, _*_, _/_, _%_, _^_, _<_}
 use native.Mathlib.Nat.{add-zero, div-one, le-of-suc-le-suc, not-suc-le-zero}
 use native.Mathlib.Omega.{arith}
 use lib.ListN.{length, take, drop, getD, set}
-use lib.Seq.{take-length, take-nil, getD-drop}
+use lib.Seq.{take-nil, getD-drop}
 use lib.Pow.{pow-pos, pow-add, mod-pow-add, mod-mod-pow, field, shr-shr}
 use Rattle.meaning.specs.Numbers.{number, bytesOf}
 
@@ -44,9 +44,6 @@ number-take-lt (suc n) (b ∷ s) h =
 
 pub number-part-lt : (n at : ℕ) (s : List ℕ) → ((i : ℕ) → getD s i 0 < 256) → number (take n (drop at s)) < 2 ^ (8 * n)
 number-part-lt n at s h = number-take-lt n (drop at s) (λ i. rw getD-drop (h (at + i)))
-
-pub number-lt : (s : List ℕ) → ((i : ℕ) → getD s i 0 < 256) → number s < 2 ^ (8 * length s)
-number-lt s h = rw take-length at (number-take-lt (length s) s h)
 
 pub length-bytesOf : (n x : ℕ) → length (bytesOf n x) ≡ n
 unfolding bytesOf

@@ -3,45 +3,15 @@ use Prim.Native.Nat.{ℕ}
 use mathlib.Core.List.{[], _∷_}
 use mathlib.Core.Path.{_≡_, refl, sym, ap, _∙_}
 use lib.ListN.{getD}
-use Rattle.meaning.specs.Table.{Value, S, G, PLT, T, IE, GD, Sum, only, with-A, with-GP, Formula, whole, _-PC, pages, far}
 use Rattle.meaning.specs.Table.{Operation, dup, assert, not, sub, sl, sr, add, and, if-else, stack, of, Way, store-in, add-to, subtract-from}
 use Rattle.meaning.specs.Table.{Semantics, unnamed, idle, loaders, push, operation, word, bytes}
-use Rattle.meaning.specs.Call.{bit, valueOf, sumOf}
 use Rattle.lemmas.specs.Operations.{operationOf}
-use Rattle.table.specs.Columns.{formulaOf, sumNumber, formulaNumber, operationNumber, wayNumber, partsOf, rangeOf, columns}
+use Rattle.table.specs.Columns.{formulaOf, operationNumber, wayNumber, partsOf, rangeOf, columns}
 
 -- ---- numbers back as what they stand for
 
-abbrev pub valueFrom : ℕ → Value
-valueFrom n = getD (S ∷ G ∷ PLT ∷ T ∷ IE ∷ GD ∷ []) n S
-
-abbrev pub sumFrom : ℕ → Value → Sum
-sumFrom n v = getD (only v ∷ with-A v ∷ with-GP v ∷ []) n (only v)
-
-abbrev pub formulaFrom : ℕ → Sum → Formula
-formulaFrom n x = getD (whole x ∷ (x -PC) ∷ pages x ∷ far x ∷ []) n (whole x)
-
 abbrev pub wayFrom : ℕ → Way
 wayFrom n = getD (store-in ∷ add-to ∷ subtract-from ∷ []) n store-in
-
-pub value-back : (v : Value) → valueFrom (bit v) ≡ v
-value-back S = refl
-value-back G = refl
-value-back PLT = refl
-value-back T = refl
-value-back IE = refl
-value-back GD = refl
-
-pub sum-back : (x : Sum) → sumFrom (sumNumber x) (valueOf x) ≡ x
-sum-back (only v) = refl
-sum-back (with-A v) = refl
-sum-back (with-GP v) = refl
-
-pub formula-back : (f : Formula) → formulaFrom (formulaNumber f) (sumOf f) ≡ f
-formula-back (whole x) = refl
-formula-back (x -PC) = refl
-formula-back (pages x) = refl
-formula-back (far x) = refl
 
 pub operation-back : (o : Operation) → operationOf (operationNumber o) ≡ o
 operation-back dup = refl

@@ -78,10 +78,11 @@ returns c =
     let turn = step .before .before .before in
     let l = turn .before in
     let b = begun l in
+    let some : step .step .result .refusal ≡ 0 → ⊥ = λ e. omega (arith, e, c .if1 .taken) in
     record {
       says = stops-here (call b) (bytes b) (l .loop .entries) (l .loop .stack .height) (l .loop .i) (more turn) (l .loop .inv .1) (step .step .result .refusal)
-          (stepped step .refusal) (c .if1 .taken);
-      proper = c .if1 .taken;
+          (stepped step .refusal) some;
+      proper = some;
     }
 
 add-i : tie.Need-add-i Inv-loop μ-loop
