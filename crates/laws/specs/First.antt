@@ -11,14 +11,10 @@ use Rattle.meaning.specs.Table.{Semantics, semantics}
 use Rattle.meaning.specs.Checks.{Answer, answer, ofRecord, ofRecords, ofMasks, checks}
 use Rattle.meaning.specs.Patch.{answerOf}
 pub use Rattle.lemmas.specs.First.{Every, Passes, Numbered, nth, every-append, every-left, every-right, every-nth, nth-every}
-pub use Rattle.lemmas.specs.First.{first-append, first-passed, first-at, zero-passes}
+pub use Rattle.lemmas.specs.First.{first-passed, first-at, zero-passes}
+use Rattle.lemmas.specs.First.{masks-numbered}
 
 -- ---- the checks of a call
-
-masks-numbered : (i : ℕ) (rows : List (List ℕ)) → Every Numbered (ofMasks i rows)
-unfolding ofMasks
-masks-numbered i [] = tt
-masks-numbered i (r ∷ rows) = (omega arith, masks-numbered (suc i) rows)
 
 record-numbered : (c : Setting) (i : ℕ) (r : Record) (does : Semantics) (st : Stack) → Every Numbered (ofRecord c i r does st)
 record-numbered c i r does st = omega arith

@@ -18,6 +18,7 @@ use Rattle.meaning.specs.Field.{put}
 use Rattle.meaning.specs.Checks.{Answer, answer, first, ofRecord, ofRecords, ofMasks, checks}
 use Rattle.meaning.specs.Patch.{setting, answerOf, patched, sectionOf}
 use Rattle.meaning.specs.Order.{run, Group, Groups, joined, commonWith, commonByte, mayChange, named, apart, eachOnce, group, mayLead, keepsOrder, rearranged}
+use Rattle.lemmas.specs.Look.{both}
 use Rattle.laws.specs.First.{Every, Passes, every-append, every-left, every-right, first-passed}
 use Rattle.laws.specs.Section.{passes-all, records-pass, accepted-answers, accepted-leaves}
 use Rattle.laws.specs.Pull.{Moved, same, change, under, then, All, moved-all, acts, moved-acts, Ahead, Allowed, order-moved}
@@ -126,10 +127,6 @@ moved-length (then m n) = moved-length m ∙ moved-length n
 -- The rule, as a relation of two groups.
 abbrev May : List ℕ → List ℕ → Type 0
 May g h = T (mayChange g h)
-
-both : (a b : Bool) → T (a && b) → T a × T b
-both true b h = (tt, h)
-both false b h = absurd h
 
 neither : (a b : Bool) → T (not (a || b)) → T (not a) × T (not b)
 neither true b h = absurd h

@@ -1,11 +1,12 @@
 -- Lists of checks: what every one of them says, and the answer of the first that fails.
 use Prim.Native.Nat.{ℕ, zero, suc, _<_, suc-le-suc}
 use native.Mathlib.Nat.{zero-lt-suc, ne-of-gt}
+use native.Mathlib.Omega.{arith}
 use mathlib.Core.Bool.{Bool, true, false, cond, false≢true}
 use mathlib.Core.List.{List, [], _∷_, _++_}
 use mathlib.Core.Path.{_≡_, refl, sym, ap, _∙_}
 use lib.ListN.{getD}
-use Rattle.meaning.specs.Checks.{Answer, answer, Check, check, first}
+use Rattle.meaning.specs.Checks.{Answer, answer, Check, check, first, ofMasks}
 
 -- ---- lists of checks
 
@@ -74,6 +75,12 @@ zero-passes (k ∷ ks) a n e = go (k .fails) refl (zero-passes ks a (n .1))
     go : (b : Bool) → k .fails ≡ b → (first ks a .number ≡ 0 → Every Passes ks) → Every Passes (k ∷ ks)
     go true f rest = absurd (ne-of-gt (n .0) (rw f at e))
     go false f rest = (f, rest (rw f at e))
+
+-- The checks of the masks have a number each.
+pub masks-numbered : (i : ℕ) (rows : List (List ℕ)) → Every Numbered (ofMasks i rows)
+unfolding ofMasks
+masks-numbered i [] = tt
+masks-numbered i (r ∷ rows) = (omega arith, masks-numbered (suc i) rows)
 
 -- A list that answers with a refusal answers so whatever comes after it.
 pub first-stops : (ks : List Check) (a rest : Answer) (n p : ℕ) → a .number ≡ 0 → (n ≡ 0 → ⊥) → answer n p ≡ first ks a → first ks rest ≡ answer n p

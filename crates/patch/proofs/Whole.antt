@@ -1,7 +1,7 @@
 -- The call: its three lists of checks one after the other, and what each outcome makes of the answer and of the section.
-use Prim.Native.Nat.{ℕ, suc, _≤_}
+use Prim.Native.Nat.{ℕ, _≤_}
 use native.Mathlib.Omega.{arith}
-use mathlib.Core.List.{List, [], _∷_, _++_}
+use mathlib.Core.List.{List, [], _++_}
 use mathlib.Core.Path.{_≡_, refl, sym, ap, _∙_, subst}
 use borrow.Author.Tests.{ltb-false, eq-eqb, ne-eqb}
 use lib.ListN.{length}
@@ -10,7 +10,7 @@ use Rattle.meaning.specs.Call.{recordsOf}
 use Rattle.meaning.specs.Checks as C
 use Rattle.meaning.specs.Checks.{Check, answer, first, ofMasks, ofRecords, checks}
 use Rattle.meaning.specs.Patch.{setting, answerOf, patched, sectionOf}
-use Rattle.lemmas.specs.First.{Every, Passes, Numbered, first-append, first-passed, first-stops, zero-passes}
+use Rattle.lemmas.specs.First.{Every, Passes, Numbered, first-append, first-passed, first-stops, masks-numbered, zero-passes}
 use Rattle.patch.specs.declared.Answer.{Answer}
 use Rattle.patch.specs.declared.Answer.the-variants.{Patched, Refused}
 use Rattle.patch.specs.Answers.{answerIn, Proper, Answers, limitChecks}
@@ -29,11 +29,6 @@ passes ks r m z k a e = zero-passes ks z k (ap (λ (x : C.Answer). x .number) (s
 
 numbered-limits : (s r v : ℕ) → Every Numbered (limitChecks s r v)
 numbered-limits s r v = omega arith
-
-numbered-masks : (i : ℕ) (rows : List (List ℕ)) → Every Numbered (ofMasks i rows)
-unfolding ofMasks
-numbered-masks i [] = tt
-numbered-masks i (r ∷ rows) = (omega arith, numbered-masks (suc i) rows)
 
 -- ---- the call
 
@@ -90,7 +85,7 @@ module _ (s records values : List ℕ) (address gp : ℕ) where
           answer-is =
               whole
               ∙ first-passed limitsOf _ limits-pass
-              ∙ first-passed masksOf _ (passes masksOf q k (answer 0 0) (numbered-masks 0 (pieces 56 values)) masked f)
+              ∙ first-passed masksOf _ (passes masksOf q k (answer 0 0) (masks-numbered 0 (pieces 56 values)) masked f)
 
           pub records-refuse : (j : Answer) → Answers j recordsAnswer → (n p : ℕ) → j ≡ Refused n p →
               Answers (Refused n p) (answerOf (setting s values address gp) records) × (s ≡ sectionOf (setting s values address gp) records s)
