@@ -3,9 +3,9 @@ pub mod Tests
 pub mod First
 pub mod Replaced
 pub mod Effect
+pub mod Bits
 pub mod Section
 pub mod Pull
-pub mod Bits
 pub mod Commute
 pub mod Order
 pub mod FieldBack

@@ -17,6 +17,7 @@ pub use Rattle.lemmas.specs.Pieces.{length-cut}
 use Rattle.laws.specs.First.{Every, Passes, every-left, every-right, zero-passes, first-passed, checks-numbered}
 use Rattle.laws.specs.Replaced.{Bytes}
 use Rattle.laws.specs.Effect.{Kept, effect-keeps}
+use Rattle.laws.specs.Bits.{bitAt, SparedBy, bit-stays}
 
 -- ---- refused
 
@@ -63,29 +64,41 @@ abbrev pub Untouched : List Record → ℕ → Type 0
 Untouched [] i = Unit {0}
 Untouched (r ∷ rs) i = ((i < r .offset) ⊎ (r .offset + writes (semantics (r .type)) ≤ i)) × Untouched rs i
 
+-- bit b of byte i is in no part of a word record's field at its place, and in no byte of a data record
+abbrev pub BitUntouched : List Record → ℕ → ℕ → Type 0
+BitUntouched [] i b = Unit {0}
+BitUntouched (r ∷ rs) i b = SparedBy r (semantics (r .type)) i b × BitUntouched rs i b
+
 pub record KeptAll (rs : List Record) (s s′ : List ℕ) : Type 0 where
   pub same-length : length s′ ≡ length s
   pub elsewhere : (i : ℕ) → Untouched rs i → getD s′ i 0 ≡ getD s i 0
+  pub other-bits : Bytes s → (i b : ℕ) → b < 8 → BitUntouched rs i b → bitAt b (getD s′ i 0) ≡ bitAt b (getD s i 0)
   pub still-bytes : Bytes s → Bytes s′
 
-then : (r : Record) (rs : List Record) (s t u : List ℕ) → Kept (r .offset) (writes (semantics (r .type))) s t → KeptAll rs t u → KeptAll (r ∷ rs) s u
-then r rs s t u a b =
+kept-all-same : (rs : List Record) (s : List ℕ) → KeptAll rs s s
+kept-all-same rs s = record { same-length = refl; elsewhere = λ i h. refl; other-bits = λ p i b l h. refl; still-bytes = λ p. p }
+
+then : (r : Record) (rs : List Record) (s t u : List ℕ) → Kept (r .offset) (writes (semantics (r .type))) s t →
+    (Bytes s → (i b : ℕ) → b < 8 → SparedBy r (semantics (r .type)) i b → bitAt b (getD t i 0) ≡ bitAt b (getD s i 0)) →
+    KeptAll rs t u → KeptAll (r ∷ rs) s u
+then r rs s t u a bits b =
     record {
       same-length = b .same-length ∙ a .same-length;
       elsewhere = λ i h. b .elsewhere i (h .1) ∙ a .elsewhere i (h .0);
+      other-bits = λ p i n l h. b .other-bits (a .still-bytes p) i n l (h .1) ∙ bits p i n l (h .0);
       still-bytes = λ p. b .still-bytes (a .still-bytes p);
     }
 
 pub patched-keeps : (c : Setting) (i : ℕ) (st : Stack) (s : List ℕ) (rs : List Record) → c .size ≡ length s → Every Passes (ofRecords c i st rs) →
     KeptAll rs s (patched c st s rs)
 unfolding patched ofRecords
-patched-keeps c i st s [] e p = record { same-length = refl; elsewhere = λ i h. refl; still-bytes = λ q. q }
+patched-keeps c i st s [] e p = kept-all-same [] s
 patched-keeps c i st s (r ∷ rs) e p =
     let does : Semantics = semantics (r .type) in
     let inside : outside (length s) (r .offset) (writes does) ≡ false = subst (λ (n : ℕ). outside n (r .offset) (writes does) ≡ false) e
     (every-left Passes (ofRecord c i r does st) (ofRecords c (suc i) (after c r does st) rs) p .1 .1 .1 .1 .0) in
     let one : Kept (r .offset) (writes does) s (effect c r does st s) = effect-keeps c r does st s inside in
-    then r rs s (effect c r does st s) _ one
+    then r rs s (effect c r does st s) _ one (λ q i b l h. bit-stays c r st s q b l does i inside h)
     (patched-keeps c (suc i) (after c r does st) (effect c r does st s) rs (e ∙ sym (one .same-length))
     (every-right Passes (ofRecord c i r does st) (ofRecords c (suc i) (after c r does st) rs) p))
 
@@ -103,4 +116,10 @@ section-keeps c records s size = go (eqb (answerOf c records .number) 0) refl
   where
     go : (b : Bool) → eqb (answerOf c records .number) 0 ≡ b → KeptAll (recordsOf records) s (sectionOf c records s)
     go true e = accepted-keeps c records s size (eqb-true (answerOf c records .number) 0 e)
-    go false e = rw e (record { same-length = refl; elsewhere = λ i h. refl; still-bytes = λ q. q })
+    go false e = rw e (kept-all-same (recordsOf records) s)
+
+-- Of a section of bytes, as every lent one is, a bit that lies in no part of a word record's field at its place, and in no byte of a
+-- data record, is the old one. Bit b of byte i, b below 8.
+pub named-bits-only : (c : Setting) (records s : List ℕ) → c .size ≡ length s → Bytes s → (i b : ℕ) → b < 8 →
+    BitUntouched (recordsOf records) i b → bitAt b (getD (sectionOf c records s) i 0) ≡ bitAt b (getD s i 0)
+named-bits-only c records s size = section-keeps c records s size .other-bits
