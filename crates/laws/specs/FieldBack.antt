@@ -23,7 +23,7 @@ use Rattle.lemmas.specs.Splice.{splice-inside, splice-apart}
 -- ---- the test of soundness, taken apart
 
 -- One of two tests passes.
-either : (a b : Bool) → T (a || b) → T a ⊎ T b
+pub either : (a b : Bool) → T (a || b) → T a ⊎ T b
 either true b h = inl tt
 either false b h = inr h
 

@@ -132,7 +132,7 @@ neither : (a b : Bool) → T (not (a || b)) → T (not a) × T (not b)
 neither true b h = absurd h
 neither false b h = (tt, h)
 
-implied : (a b : Bool) → T (not a || b) → T a → T b
+pub implied : (a b : Bool) → T (not a || b) → T a → T b
 implied true b h t = h
 implied false b h t = absurd t
 
@@ -198,7 +198,7 @@ order-holds s values address gp gs order w once keeps ok =
 -- ---- an example: what the theorem asks can be had, not by every order, and an order without it may leave something else
 
 -- the bytes of a record of symbol 0, whose S is 0
-pub record-bytes : ℕ → ℕ → ℕ → List ℕ
+unfoldable pub record-bytes : ℕ → ℕ → ℕ → List ℕ
 record-bytes offset type addend = bytesOf 8 offset ++ (bytesOf 8 type ++ bytesOf 8 addend)
 
 -- 9 pushed (23) and put into the word at 0 (38), 5 stored in the four bytes at 4 (1), 4 added to the byte at 1 (47)

@@ -1,0 +1,85 @@
+-- A call on real bytes: what `named-bits-only` and `read-back-gives` ask can be met, and what they then say of it.
+use Prim.Native.Nat.{ℕ, _-_, _^_}
+use native.Mathlib.Omega.{arith}
+use mathlib.Core.List.{List, [], _∷_, _++_}
+use mathlib.Core.Logic.{inl, inr, _≢_}
+use mathlib.Core.Path.{_≡_, refl, ap}
+use lib.IntN.{pos}
+use lib.ListN.{getD}
+use Rattle.meaning.specs.Numbers.{number, bytesOf, cut}
+use Rattle.meaning.specs.Table.{Accepted, from_to_, any, stack, bits_⋯_to_⋯_, neg, table, look}
+use Rattle.meaning.specs.Call.{Setting, Record, recordsOf}
+use Rattle.meaning.specs.Field.{put}
+use Rattle.meaning.specs.Checks.{Answer, answer, first, ofRecords, ofMasks, checks}
+use Rattle.meaning.specs.Patch.{setting, answerOf, patched, sectionOf}
+use Rattle.meaning.specs.ReadBack.{readBackOf}
+use Rattle.meaning.specs.Order.{run}
+use Rattle.lemmas.specs.Bytes.{bytesOf-bytes}
+use Rattle.laws.specs.Replaced.{Bytes, bytes-append}
+use Rattle.laws.specs.Bits.{bitAt}
+use Rattle.laws.specs.Section.{BitUntouched, named-bits-only}
+use Rattle.laws.specs.Order.{record-bytes}
+use Rattle.laws.specs.ReadBack.{WordUntouched, read-back-gives}
+
+-- addi.d $a0, $t0, 0; b 0; four bytes of data: at address 1000h
+pub code : List ℕ
+code = bytesOf 4 0x02c00184 ++ (bytesOf 4 0x50000000 ++ bytesOf 4 0x04030201)
+
+pub at-1000 : Setting
+at-1000 = setting code [] 0x1000 0
+
+-- -3 pushed (23) and put into the first word (40), the way to 1014h put into the second (66), 7 added to the byte at 8 (47)
+pub four : List ℕ
+four = record-bytes 0 23 (2 ^ 64 - 3) ++ (record-bytes 0 40 0 ++ (record-bytes 4 66 0x1014 ++ record-bytes 8 47 7))
+
+-- addi.d $a0, $t0, -3; b 16; 8 for the first byte of the data
+pub accepted : (answerOf at-1000 four ≡ answer 0 4) ×
+    (sectionOf at-1000 four code ≡ bytesOf 4 0x02fff584 ++ (bytesOf 4 0x50001000 ++ bytesOf 4 0x04030208))
+unfolding code at-1000 four record-bytes number bytesOf cut table look put first ofRecords ofMasks checks patched
+accepted = (refl, refl)
+
+-- ---- bits
+
+-- Byte 1 is rewritten, from 01h to f5h, but its bit 0 is in no field: it is the first word's bit 8, of $t0.
+pub in-no-field : BitUntouched (recordsOf four) 1 0
+unfolding four record-bytes number bytesOf cut table look
+in-no-field = (inr tt, (inr (inl (omega arith), tt), (inl (omega arith), (inl (omega arith), tt))))
+
+pub code-bytes : Bytes code
+unfolding code
+code-bytes =
+    bytes-append (bytesOf 4 0x02c00184) _ (bytesOf-bytes 4 0x02c00184)
+    (bytes-append (bytesOf 4 0x50000000) _ (bytesOf-bytes 4 0x50000000) (bytesOf-bytes 4 0x04030201))
+
+pub bit-kept : bitAt 0 (getD (sectionOf at-1000 four code) 1 0) ≡ bitAt 0 (getD code 1 0)
+unfolding at-1000
+bit-kept = named-bits-only at-1000 four code refl code-bytes 1 0 (omega arith) in-no-field
+
+-- ---- read back
+
+-- The push, the record that puts -3 into the word at 0, and those after it, which write no byte of that word.
+pub before : List Record
+before = record { offset = 0; type = 23; symbol = 0; addend = 2 ^ 64 - 3 } ∷ []
+
+pub pop : Record
+pop = record { offset = 0; type = 40; symbol = 0; addend = 0 }
+
+pub later : List Record
+later = record { offset = 4; type = 66; symbol = 0; addend = 0x1014 } ∷ record { offset = 8; type = 47; symbol = 0; addend = 7 } ∷ []
+
+pub in-list : recordsOf four ≡ before ++ pop ∷ later
+unfolding four record-bytes number bytesOf cut before pop later
+in-list = refl
+
+pub none-later : WordUntouched later 0
+unfolding later
+none-later i from-0 below-4 = (inl (omega arith), (inl (omega arith), tt))
+
+-- So read back of the word at 0, as type 40, gives -3.
+pub read-back-example : readBackOf 64 (sectionOf at-1000 four code) 0x1000 0 40 ≡ record { number = 0; place = 0; value = neg 3 }
+unfolding at-1000 before pop number bytesOf table look run
+read-back-example =
+    let range : Accepted = from (neg 2048) to (pos 2047) in
+    let checked : range ≢ any = λ e. let z : _≡_ {A = ℕ} 0 1 = cc in omega arith in
+    read-back-gives code four [] 0x1000 0 before later pop stack (bits 11 ⋯ 0 to 21 ⋯ 10 ∷ []) range
+    (ap (λ (a : Answer). a .number) (accepted .0)) in-list refl none-later checked
