@@ -84,6 +84,7 @@ number-bit (suc k) b (x ∷ t) p l =
     ∙ ap (bitAt (8 * k + b)) d
     ∙ number-bit k b t (λ i. p (suc i)) l
 
+-- So of the word at a place.
 word-bit : (place k b : ℕ) (s : List ℕ) → Bytes s → k < 4 → b < 8 → bitAt (8 * k + b) (wordAt place s) ≡ bitAt b (getD s (place + k) 0)
 word-bit place k b s p h l =
     number-bit k b (take 4 (drop place s)) (bytes-take 4 (drop place s) (bytes-drop place s p)) l
