@@ -1,7 +1,8 @@
 # Rofteluvi for C programmers.
 #
 #   make                 the archive and the program `patcher` (proved and compiled by the Rattle kit, rt)
-#   make test            the archive against an independent C implementation, and the program on the frames of tests/frames
+#   make test            the archive against an independent C implementation, the program on the frames of tests/frames, and the lines
+#                        of crates/meaning/proofs/Rows.antt against those that `make rows` prints
 #   make example         builds and runs host/example.c
 #   make bench           instructions per record, code size and stack, beside plain C
 #   make bench-program   instructions of the program on full buffers, beside plain C that does the same (x86-64 only)
@@ -12,6 +13,7 @@
 #   make test-plain      bench's plain C against the independent implementation
 #   make test-sanitize   the tests built with -fsanitize=address,undefined
 #   make test-broken     breaks bench's plain C on purpose, many ways: the tests must find each
+#   make rows            a call for every type, and the bytes that the independent implementation leaves, as Rows.antt has them
 #
 # The archive is made for x86-64. Elsewhere the C side is cross-compiled and run under an emulator; scripts/setup installs what
 # is missing. ARCHIVE=file links another archive.
@@ -46,10 +48,11 @@ RUN     := RT=$(RT) scripts/host-run
 
 TEST_C  := $(wildcard tests/host/*.c)
 TEST_H  := $(wildcard tests/host/*.h) include/rofteluvi.h
+ROWS_C  := tests/rows/rows.c tests/host/reference.c tests/host/draft.c
 # plain.c under the archive's names, to be tested in its place
 AS_ARCHIVE := -Dplain_patch=rofteluvi_patch -Dplain_read_back=rofteluvi_read_back
 
-.PHONY: all meaning frames test test-host test-frames test-plain test-sanitize test-broken example bench bench-program install clean distclean compiler FORCE
+.PHONY: all meaning frames test test-host test-frames rows test-rows test-plain test-sanitize test-broken example bench bench-program install clean distclean compiler FORCE
 .DELETE_ON_ERROR:
 
 all: $(ARCHIVE) $(PROGRAM)
@@ -86,13 +89,24 @@ $(OUT)/linked-with: FORCE | $(OUT)
 $(OUT)/host_test: $(TEST_C) $(TEST_H) $(ARCHIVE) $(OUT)/linked-with | compiler $(OUT)
 	$(COMPILE) $(TEST_C) $(ARCHIVE) $(LINK) -o $@
 
-test: test-host test-frames
+test: test-host test-frames test-rows
 
 test-host: $(OUT)/host_test
 	$(RUN) $(OUT)/host_test $(SEED) $(CALLS)
 
 test-frames: $(PROGRAM)
 	tests/frames/run
+
+$(OUT)/rows: $(ROWS_C) $(TEST_H) $(OUT)/linked-with | compiler $(OUT)
+	$(COMPILE) -Itests/host $(ROWS_C) $(LINK) -o $@
+
+rows: $(OUT)/rows
+	@$(RUN) $(OUT)/rows
+
+# What stands between the file's two marks must be what is printed.
+test-rows: $(OUT)/rows
+	$(RUN) $(OUT)/rows >$(OUT)/rows.printed
+	sed '1,/^-- ---- from here as/d; /^-- ---- to here/,$$d' crates/meaning/proofs/Rows.antt | diff - $(OUT)/rows.printed
 
 $(OUT)/plain_test: $(TEST_C) $(TEST_H) bench/plain.c bench/plain.h $(OUT)/linked-with | compiler $(OUT)
 	$(COMPILE) $(AS_ARCHIVE) $(TEST_C) bench/plain.c $(LINK) -o $@

@@ -1,61 +1,25 @@
 -- The edges that document 01 marks P, together as one table, and one computed test of it.
-use Prim.Native.Nat.{ℕ, _+_, _-_, _*_, _^_}
-use mathlib.Core.Bool.{Bool, true, false, _&&_}
+use Prim.Native.Nat.{ℕ, _*_, _^_}
 use mathlib.Core.List.{List, [], _∷_, _++_}
-use lib.Dec.{T, eqb}
+use lib.Dec.{T}
 use lib.ListN.{replicate}
 use Rattle.meaning.specs.Numbers.{number, bytesOf, cut}
 use Rattle.meaning.specs.Table.{table, look}
 use Rattle.meaning.specs.Field.{put}
 use Rattle.meaning.specs.Checks.{first, ofRecords, ofMasks, checks}
-use Rattle.meaning.specs.Patch.{setting, answerOf, sectionOf, patched}
+use Rattle.meaning.specs.Patch.{patched}
+use Rattle.meaning.proofs.Cases.{rela, push, minus, Case, same, holds, allHold}
 
--- the bytes of a record, and of a value row with S present alone
-pub rela : ℕ → ℕ → ℕ → ℕ → List ℕ
-rela offset type symbol addend = bytesOf 8 offset ++ bytesOf 8 (type + symbol * 2 ^ 32) ++ bytesOf 8 addend
-
+-- a value row with S present alone
 pub rowS : ℕ → List ℕ
 rowS s = bytesOf 8 1 ++ bytesOf 8 s ++ replicate 40 0
 
--- type 23 of symbol 0 pushes the addend
-pub push : ℕ → List ℕ
-push addend = rela 0 23 0 addend
-
--- an addend below 0
-pub minus : ℕ → ℕ
-minus n = 2 ^ 64 - n
-
--- an edge: a call, and its number, place and section
-pub record Edge : Type 0 where
-  pub section : List ℕ
-  pub records : List ℕ
-  pub values : List ℕ
-  pub address : ℕ
-  pub number : ℕ
-  pub place : ℕ
-  pub left : List ℕ
-
 -- a call at address 0 on a section that holds the word 0, with S or not
-pub on : List ℕ → List ℕ → ℕ → ℕ → List ℕ → Edge
+pub on : List ℕ → List ℕ → ℕ → ℕ → List ℕ → Case
 on records values number place left =
-    record { section = bytesOf 4 0; records = records; values = values; address = 0; number = number; place = place; left = left }
+    record { section = bytesOf 4 0; records = records; values = values; address = 0; gp = 0; number = number; place = place; left = left }
 
-pub same : List ℕ → List ℕ → Bool
-same [] [] = true
-same [] (y ∷ ys) = false
-same (x ∷ xs) [] = false
-same (x ∷ xs) (y ∷ ys) = eqb x y && same xs ys
-
-pub holds : Edge → Bool
-holds e =
-    let c = setting (e .section) (e .values) (e .address) 0 in
-    eqb (answerOf c (e .records) .number) (e .number) && eqb (answerOf c (e .records) .place) (e .place) && same (sectionOf c (e .records) (e .section)) (e .left)
-
-pub allHold : List Edge → Bool
-allHold [] = true
-allHold (e ∷ es) = holds e && allHold es
-
-pub edges : List Edge
+pub edges : List Case
 edges =
     -- the frame case as a patch: address 1000h, one word 50000000h, S = 1010h, type 66 at 0
     record {
@@ -63,12 +27,13 @@ edges =
       records = rela 0 66 1 0;
       values = rowS 0x1010;
       address = 0x1000;
+      gp = 0;
       number = 0;
       place = 1;
       left = 0 ∷ 0x10 ∷ 0 ∷ 0x50 ∷ [];
     } ∷
     -- empty list, place 0, section unchanged
-    record { section = 1 ∷ 2 ∷ 3 ∷ []; records = []; values = []; address = 7; number = 0; place = 0; left = 1 ∷ 2 ∷ 3 ∷ [] } ∷
+    record { section = 1 ∷ 2 ∷ 3 ∷ []; records = []; values = []; address = 7; gp = 0; number = 0; place = 0; left = 1 ∷ 2 ∷ 3 ∷ [] } ∷
     -- type 64 with 131,068 gives field 7fffh; 131,072 is 14; 131,070 is 15
     on (rela 0 64 0 131068) [] 0 1 (bytesOf 4 (0x7fff * 2 ^ 10)) ∷
     on (rela 0 64 0 131072) [] 14 0 (bytesOf 4 0) ∷
@@ -83,6 +48,7 @@ edges =
       records = rela 0 49 0 1;
       values = [];
       address = 0;
+      gp = 0;
       number = 0;
       place = 1;
       left = 0 ∷ 0 ∷ 0 ∷ 0xab ∷ [];
@@ -98,6 +64,7 @@ edges =
       records = rela 4 71 1 0x78;
       values = rowS 0x12345600;
       address = 0x12340000;
+      gp = 0;
       number = 0;
       place = 1;
       left = bytesOf 4 0 ++ bytesOf 4 0xa0;

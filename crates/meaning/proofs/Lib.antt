@@ -1,3 +1,6 @@
--- Two computed tests that hold the definitions to document 01: its edges marked P, and that every field's description is sound.
+-- Computed tests that hold the definitions to document 01: its edges marked P, a case for every row of the table, and that every field's
+-- description is sound.
+pub mod Cases
 pub mod Edges
+pub mod Rows
 pub mod Sound

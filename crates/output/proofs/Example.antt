@@ -1,8 +1,8 @@
 -- The example of document 01's frames, as one computed test: its input as text, and the bytes that answer it.
 use Prim.Native.Nat.{ℕ}
-use mathlib.Core.Bool.{Bool, true, false, _&&_}
+use mathlib.Core.Bool.{_&&_}
 use mathlib.Core.List.{List, [], _∷_, _++_}
-use lib.Dec.{T, eqb}
+use lib.Dec.{T}
 use Rattle.meaning.specs.Numbers.{number, bytesOf, cut}
 use Rattle.meaning.specs.Table.{table, look}
 use Rattle.meaning.specs.Field.{put}
@@ -10,12 +10,7 @@ use Rattle.meaning.specs.Checks.{first, ofRecords, ofMasks, checks}
 use Rattle.meaning.specs.Patch.{patched}
 use Rattle.meaning.specs.Frames.{linesOf, digit, allDigits, numeral, bytesIn, sized, follows, wellFormed, ofLine, reading, outputOf, outputFor}
 use Rattle.meaning.specs.Frames.{digitFor, digits, digitsOf, line-feed, frames02, sectionLines, written}
-
-pub same : List ℕ → List ℕ → Bool
-same [] [] = true
-same [] (y ∷ ys) = false
-same (x ∷ xs) [] = false
-same (x ∷ xs) (y ∷ ys) = eqb x y && same xs ys
+use Rattle.meaning.proofs.Cases.{same}
 
 -- a line of n digits, which antt reads as one hexadecimal number
 pub line : ℕ → ℕ → List ℕ

@@ -1,0 +1,45 @@
+-- A case: a call, and what it must answer and leave. A table of cases is tested by computing.
+use Prim.Native.Nat.{ℕ, _+_, _-_, _*_, _^_}
+use mathlib.Core.Bool.{Bool, true, false, _&&_}
+use mathlib.Core.List.{List, [], _∷_, _++_}
+use lib.Dec.{eqb}
+use Rattle.meaning.specs.Numbers.{bytesOf}
+use Rattle.meaning.specs.Patch.{setting, answerOf, sectionOf}
+
+-- the bytes of a record
+unfoldable pub rela : ℕ → ℕ → ℕ → ℕ → List ℕ
+rela offset type symbol addend = bytesOf 8 offset ++ bytesOf 8 (type + symbol * 2 ^ 32) ++ bytesOf 8 addend
+
+-- type 23 of symbol 0 pushes the addend
+unfoldable pub push : ℕ → List ℕ
+push addend = rela 0 23 0 addend
+
+-- an addend below 0
+unfoldable pub minus : ℕ → ℕ
+minus n = 2 ^ 64 - n
+
+pub record Case : Type 0 where
+  pub section : List ℕ
+  pub records : List ℕ
+  pub values : List ℕ
+  pub address : ℕ
+  pub gp : ℕ
+  pub number : ℕ
+  pub place : ℕ
+  pub left : List ℕ
+
+unfoldable pub same : List ℕ → List ℕ → Bool
+same [] [] = true
+same [] (y ∷ ys) = false
+same (x ∷ xs) [] = false
+same (x ∷ xs) (y ∷ ys) = eqb x y && same xs ys
+
+unfoldable pub holds : Case → Bool
+holds e =
+    let c = setting (e .section) (e .values) (e .address) (e .gp) in
+    let a = answerOf c (e .records) in
+    eqb (a .number) (e .number) && eqb (a .place) (e .place) && same (sectionOf c (e .records) (e .section)) (e .left)
+
+unfoldable pub allHold : List Case → Bool
+allHold [] = true
+allHold (e ∷ es) = holds e && allHold es
