@@ -101,14 +101,15 @@ pub fn multiple_of_4(x: u64) -> bool
     x % 4 == 0
 }
 
-// Refusal 8: n bytes at an offset, 1 or more, are not all inside a section of `size` bytes. No sum can wrap here.
+// Refusal 8: n bytes at an offset, 1 or more, are not all inside a section of `size` bytes. A sum that wraps is below what was added.
 pub fn outside(size: u64, offset: u64, n: u32) -> bool
     requires { ⌜ 1 ≤ n ⌝ }
     ensures { λ r. ⌜ r ≡ C.outside size offset n ⌝ }
 {
     let count = n as u64;
-    if size < count {
+    let end = plus(offset, count);
+    if end < count {
         return true;
     }
-    size - count < offset
+    size < end
 }
