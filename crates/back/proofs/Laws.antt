@@ -19,7 +19,7 @@ use Rattle.meaning.specs.Numbers.{number, plus, signed}
 use Rattle.meaning.specs.Table.{Part, Accepted, from_to_, signed-multiple-of-4, any, stack, of, Semantics, unnamed, idle, loaders, push, operation, word, bytes, semantics}
 use Rattle.meaning.specs.Field.{many, at, slice, wide, lowest, bare}
 use Rattle.meaning.specs.Checks.{first, ofWord, outside, unaligned}
-use Rattle.meaning.specs.ReadBack.{fieldValue, valueBack, readBackOf}
+use Rattle.meaning.specs.ReadBack.{fieldValue, valueBack}
 use Rattle.meaning.proofs.Sound.{sound, soundParts, holdsRange, inside, apart, apartFrom, adjoining}
 use Rattle.table.specs.declared.Row.{Row}
 use Rattle.table.specs.Columns as C
@@ -27,7 +27,7 @@ use Rattle.table.specs.Columns.{classOf, partsOf, rangeOf, rangeNumber, second,
 use Rattle.table.specs.Look.{both, sound-at, fits-at}
 use Rattle.table.specs.Words.{bits-fit}
 use Rattle.back.specs.declared.Immediate.the-variants.{Value, Refused}
-use Rattle.back.specs.Immediates.{Reads}
+use Rattle.back.specs.Immediates.{ReadsBack}
 
 -- ---- refusal 4: the word types are the classes 5 and 6
 
@@ -267,17 +267,17 @@ module _ (row : Row) (kind : ℕ) (e : row ≡ columns (semantics kind)) where
 -- ---- the call: the first check that fails, or the value
 
 module _ (s : List ℕ) (address offset kind : ℕ) where
-  pub refused-1 : 65536 < length s → Reads (Refused 1) (readBackOf 64 s address offset kind)
+  pub refused-1 : 65536 < length s → ReadsBack s address offset kind (Refused 1)
   unfolding first
   refused-1 h = record { says = simp (lt-ltb 65536 (length s) h); proper = omega arith }
 
   module _ (long : length s ≤ 65536) where
-    pub refused-4 : noWord (semantics kind) ≡ true → Reads (Refused 4) (readBackOf 64 s address offset kind)
+    pub refused-4 : noWord (semantics kind) ≡ true → ReadsBack s address offset kind (Refused 4)
     unfolding first
     refused-4 h = record { says = simp (le-ltb 65536 (length s) long, h); proper = omega arith }
 
     module _ (named : noWord (semantics kind) ≡ false) where
-      pub refused-8 : outside (length s) offset 4 ≡ true → Reads (Refused 8) (readBackOf 64 s address offset kind)
+      pub refused-8 : outside (length s) offset 4 ≡ true → ReadsBack s address offset kind (Refused 8)
       unfolding first
       refused-8 h = record { says = simp (le-ltb 65536 (length s) long, named, h); proper = omega arith }
 
@@ -285,11 +285,11 @@ module _ (s : List ℕ) (address offset kind : ℕ) where
         pub inside-section : offset + 4 ≤ length s
         inside-section = ltb-false (length s) (offset + 4) within
 
-        pub refused-9 : unaligned (plus 64 address offset) ≡ true → Reads (Refused 9) (readBackOf 64 s address offset kind)
+        pub refused-9 : unaligned (plus 64 address offset) ≡ true → ReadsBack s address offset kind (Refused 9)
         unfolding first
         refused-9 h = record { says = simp (le-ltb 65536 (length s) long, named, within, h); proper = omega arith }
 
         pub value-read : unaligned (plus 64 address offset) ≡ false → (held : ℕ) → held ≡ number (take 4 (drop offset s)) →
-            (z : ℤ) → z ≡ valueBack (semantics kind) held → Reads (Value z) (readBackOf 64 s address offset kind)
+            (z : ℤ) → z ≡ valueBack (semantics kind) held → ReadsBack s address offset kind (Value z)
         unfolding first
         value-read h held p z q = record { says = simp (le-ltb 65536 (length s) long, named, within, h, q, p); proper = tt }

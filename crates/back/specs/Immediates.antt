@@ -1,7 +1,10 @@
--- The code's immediates by document 01's numbers.
+-- The code's immediates by document 01's numbers, and what a call comes to.
+use Prim.Native.Nat.{ℕ}
+use mathlib.Core.List.{List}
 use mathlib.Core.Path.{_≡_}
 use lib.IntN.{pos}
 use Rattle.meaning.specs.ReadBack as R
+use Rattle.meaning.specs.ReadBack.{readBackOf}
 use Rattle.back.specs.declared.Immediate.{Immediate}
 use Rattle.back.specs.declared.Immediate.the-variants.{Value, Refused}
 
@@ -15,7 +18,7 @@ abbrev pub Proper : Immediate → Type 0
 Proper (Value z) = Unit {0}
 Proper (Refused n) = n ≡ 0 → ⊥
 
--- The code's immediate is the one by document 01's numbers.
-pub record Reads (r : Immediate) (i : R.Immediate) : Type 0 where
-  pub says : immediateIn r ≡ i
+-- What a call of read back comes to: the answer by document 01's numbers.
+pub record ReadsBack (section : List ℕ) (address offset type : ℕ) (r : Immediate) : Type 0 where
+  pub says : immediateIn r ≡ readBackOf 64 section address offset type
   pub proper : Proper r

@@ -7,9 +7,9 @@ ghost use Rattle.meaning.specs.Numbers as N;
 ghost use Rattle.meaning.specs.Table.{semantics};
 ghost use Rattle.meaning.specs.Field as F;
 ghost use Rattle.meaning.specs.Checks as C;
-ghost use Rattle.meaning.specs.ReadBack.{valueBack, readBackOf};
+ghost use Rattle.meaning.specs.ReadBack.{valueBack};
 ghost use Rattle.table.specs.Columns.{columns, partsOf};
-ghost use Rattle.back.specs.Immediates.{Reads};
+ghost use Rattle.back.specs.Immediates.{ReadsBack};
 
 // The immediate that a word holds, or a number of refusal: 1, 4, 8 or 9. Its place is always 0, and on refusal the number given is 0.
 pub enum Immediate {
@@ -81,7 +81,7 @@ fn value_in(word: u64, row: Row, kind: u64) -> i64
 
 // Any section and any numbers get an answer. The checks go in their order: 1, 4, 8, 9.
 pub fn read_back(section: &[u8], address: u64, offset: u64, kind: u64) -> Immediate
-    ensures { λ r. ⌜ Reads r (readBackOf 64 (now (section .entry)) address offset kind) ⌝ }
+    ensures { λ r. ⌜ ReadsBack (now (section .entry)) address offset kind r ⌝ }
 {
     if section.len() > 65536 {
         return Immediate::Refused(1);

@@ -13,7 +13,7 @@ use Rattle.meaning.specs.Patch.{setting, answerOf, patched, sectionOf}
 use Rattle.lemmas.specs.First.{Every, Passes, Numbered, first-append, first-passed, first-stops, masks-numbered, zero-passes}
 use Rattle.patch.specs.declared.Answer.{Answer}
 use Rattle.patch.specs.declared.Answer.the-variants.{Patched, Refused}
-use Rattle.patch.specs.Answers.{answerIn, Proper, Answers, limitChecks}
+use Rattle.patch.specs.Answers.{answerIn, Proper, Answers, Patches, limitChecks}
 use Rattle.patch.proofs.Laws.{accepted}
 
 -- ---- one list of checks, by what it answered
@@ -55,12 +55,12 @@ module _ (s records values : List ℕ) (address gp : ℕ) where
       rw (ne-eqb (answerOf (setting s values address gp) records .number) 0 (λ q. z (sym (ap (λ (x : C.Answer). x .number) e) ∙ q)))
 
   refused : (n p : ℕ) → (n ≡ 0 → ⊥) → answerOf (setting s values address gp) records ≡ answer n p →
-      Answers (Refused n p) (answerOf (setting s values address gp) records) × (s ≡ sectionOf (setting s values address gp) records s)
-  refused n p z e = (record { says = sym e; proper = z }, refused-section n p e z)
+      Patches s records values address gp (Refused n p) s
+  refused n p z e = record { answers = record { says = sym e; proper = z }; leaves = refused-section n p e z }
 
   module _ (r : Answer) (limited : Answers r (first limitsOf (answer 0 0))) where
     pub limits-refuse : (n p : ℕ) → r ≡ Refused n p →
-        Answers (Refused n p) (answerOf (setting s values address gp) records) × (s ≡ sectionOf (setting s values address gp) records s)
+        Patches s records values address gp (Refused n p) s
     limits-refuse n p e = let a = stopped limitsOf r n p limited e in refused n p (a .0) (whole ∙ a .1 _)
 
     module _ (m : ℕ) (e : r ≡ Patched m) where
@@ -75,7 +75,7 @@ module _ (s records values : List ℕ) (address gp : ℕ) where
 
       module _ (q : Answer) (masked : Answers q (first masksOf (answer 0 0))) where
         pub masks-refuse : (n p : ℕ) → q ≡ Refused n p →
-            Answers (Refused n p) (answerOf (setting s values address gp) records) × (s ≡ sectionOf (setting s values address gp) records s)
+            Patches s records values address gp (Refused n p) s
         masks-refuse n p f =
             let a = stopped masksOf q n p masked f in
             refused n p (a .0) (whole ∙ first-passed limitsOf _ limits-pass ∙ a .1 _)
@@ -88,7 +88,7 @@ module _ (s records values : List ℕ) (address gp : ℕ) where
               ∙ first-passed masksOf _ (passes masksOf q k (answer 0 0) (masks-numbered 0 (pieces 56 values)) masked f)
 
           pub records-refuse : (j : Answer) → Answers j recordsAnswer → (n p : ℕ) → j ≡ Refused n p →
-              Answers (Refused n p) (answerOf (setting s values address gp) records) × (s ≡ sectionOf (setting s values address gp) records s)
+              Patches s records values address gp (Refused n p) s
           records-refuse j judged n p g =
               refused n p (subst Proper g (judged .proper)) (answer-is ∙ sym (judged .says) ∙ ap answerIn g)
 
@@ -97,8 +97,9 @@ module _ (s records values : List ℕ) (address gp : ℕ) where
 
           pub records-accepted : recordsAnswer .number ≡ 0 → (w : Answer) → Answers w recordsAnswer → (t : List ℕ) →
               t ≡ patched (setting s values address gp) [] s (recordsOf records) →
-              Answers w (answerOf (setting s values address gp) records) × (t ≡ sectionOf (setting s values address gp) records s)
-          records-accepted z w written t g = (
-            record { says = written .says ∙ sym answer-is; proper = written .proper },
-            rw (eq-eqb (answerOf (setting s values address gp) records .number) 0 (ap (λ (x : C.Answer). x .number) answer-is ∙ z)) g,
-          )
+              Patches s records values address gp w t
+          records-accepted z w written t g =
+              record {
+                answers = record { says = written .says ∙ sym answer-is; proper = written .proper };
+                leaves = rw (eq-eqb (answerOf (setting s values address gp) records .number) 0 (ap (λ (x : C.Answer). x .number) answer-is ∙ z)) g;
+              }

@@ -1,4 +1,4 @@
--- The answers of the code by document 01's numbers.
+-- The answers of the code by document 01's numbers, and what a call comes to.
 use Prim.Native.Nat.{ℕ, _%_}
 use mathlib.Core.Bool.{not}
 use mathlib.Core.List.{List, [], _∷_}
@@ -6,6 +6,7 @@ use mathlib.Core.Path.{_≡_}
 use lib.Dec.{eqb, ltb}
 use Rattle.meaning.specs.Checks as C
 use Rattle.meaning.specs.Checks.{answer, check}
+use Rattle.meaning.specs.Patch.{setting, answerOf, sectionOf}
 use Rattle.patch.specs.declared.Answer.{Answer}
 use Rattle.patch.specs.declared.Answer.the-variants.{Patched, Refused}
 
@@ -23,6 +24,11 @@ Proper (Refused n p) = n ≡ 0 → ⊥
 pub record Answers (r : Answer) (a : C.Answer) : Type 0 where
   pub says : answerIn r ≡ a
   pub proper : Proper r
+
+-- What a call of patch comes to: its answer, and what it leaves in the section.
+pub record Patches (section records values : List ℕ) (address gp : ℕ) (r : Answer) (left : List ℕ) : Type 0 where
+  pub answers : Answers r (answerOf (setting section values address gp) records)
+  pub leaves : left ≡ sectionOf (setting section values address gp) records section
 
 -- The checks of the call's lengths, 1 and 2, as the meaning's list begins.
 abbrev pub limitChecks : ℕ → ℕ → ℕ → List C.Check

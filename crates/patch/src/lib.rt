@@ -9,11 +9,11 @@ ghost use lib.ListN.{length};
 ghost use Rattle.meaning.specs.Numbers.{pieces};
 ghost use Rattle.meaning.specs.Call.{recordOf, recordsOf};
 ghost use Rattle.meaning.specs.Checks as C;
-ghost use Rattle.meaning.specs.Patch as P;
+ghost use Rattle.meaning.specs.Patch.{patched};
 ghost use Rattle.lemmas.specs.Pieces.{piece};
 ghost use Rattle.table.specs.Columns.{lines};
 ghost use Rattle.steps.specs.Step.{asRecord, given};
-ghost use Rattle.patch.specs.Answers.{Answers, limitChecks};
+ghost use Rattle.patch.specs.Answers.{Answers, Patches, limitChecks};
 
 // A record is 24 bytes, a value row 56.
 const RECORD: usize = 24;
@@ -113,7 +113,7 @@ fn write_all(
     requires { ⌜ (setting .size ≡ length (now section)) × (length (now records) ≤ 49152) ⌝ }
     requires { ⌜ C.first (C.ofRecords (given (setting .size) (now values) (setting .address) (setting .gp)) 0 [] (recordsOf (now records)))
         (C.answer 0 (length (recordsOf (now records)))) .number ≡ 0 ⌝ }
-    ensures { λ _. ⌜ now (section .exit) ≡ P.patched (given (setting .size) (now (values .entry)) (setting .address) (setting .gp)) []
+    ensures { λ _. ⌜ now (section .exit) ≡ patched (given (setting .size) (now (values .entry)) (setting .address) (setting .gp)) []
         (now (section .entry)) (recordsOf (now (records .entry))) ⌝ }
 {
     let count = records.len() / RECORD;
@@ -129,9 +129,7 @@ fn write_all(
 
 // Any lengths, any bytes and any numbers get an answer. A refused list leaves the section exactly as it came.
 pub fn patch(section: &mut [u8], records: &[u8], values: &[u8], address: u64, gp: u64) -> Answer
-    ensures { λ r. ⌜ Answers r (P.answerOf (P.setting (now (section .entry)) (now (values .entry)) address gp) (now (records .entry))) ⌝ }
-    ensures { λ _. ⌜ now (section .exit) ≡ P.sectionOf (P.setting (now (section .entry)) (now (values .entry)) address gp) (now (records .entry))
-        (now (section .entry)) ⌝ }
+    ensures { λ r. ⌜ Patches (now (section .entry)) (now (records .entry)) (now (values .entry)) address gp r (now (section .exit)) ⌝ }
 {
     let limited = limits(section.len(), records.len(), values.len());
     if let Answer::Refused(number, place) = limited {

@@ -1,6 +1,10 @@
--- What a C caller is handed, as document 01's number, place and value.
+-- What a C caller is handed, as document 01's number, place and value, and what each call comes to.
+use Prim.Native.Nat.{ℕ}
+use mathlib.Core.List.{List}
+use mathlib.Core.Path.{_≡_}
 use Rattle.meaning.specs.Checks.{Answer, answer}
-use Rattle.meaning.specs.ReadBack.{Immediate}
+use Rattle.meaning.specs.Patch.{setting, answerOf, sectionOf}
+use Rattle.meaning.specs.ReadBack.{Immediate, readBackOf}
 use Rattle.rofteluvi.specs.declared.RofteluviAnswer.{RofteluviAnswer}
 use Rattle.rofteluvi.specs.declared.RofteluviImmediate.{RofteluviImmediate}
 
@@ -9,3 +13,12 @@ answerIn r = answer (r .number) (r .place)
 
 abbrev pub immediateIn : RofteluviImmediate → Immediate
 immediateIn r = record { number = r .number; place = r .place; value = r .value }
+
+-- A call of patch: its answer, and what it leaves in the section.
+pub record Patches (section records values : List ℕ) (address gp : ℕ) (r : RofteluviAnswer) (left : List ℕ) : Type 0 where
+  pub says : answerIn r ≡ answerOf (setting section values address gp) records
+  pub leaves : left ≡ sectionOf (setting section values address gp) records section
+
+-- A call of read back: its answer.
+pub record ReadsBack (section : List ℕ) (address offset type : ℕ) (r : RofteluviImmediate) : Type 0 where
+  pub says : immediateIn r ≡ readBackOf 64 section address offset type

@@ -1,10 +1,7 @@
 // The C face: numbers and byte buffers in, a number, a place and a value out. include/rofteluvi.h declares it for a C program.
 use back::Immediate;
 use patch::Answer;
-ghost use mathlib.Core.Path.{_≡_};
-ghost use Rattle.meaning.specs.Patch as P;
-ghost use Rattle.meaning.specs.ReadBack as B;
-ghost use Rattle.rofteluvi.specs.Face.{answerIn, immediateIn};
+ghost use Rattle.rofteluvi.specs.Face.{Patches, ReadsBack};
 
 // rofteluvi_answer of the header.
 #[repr(C)]
@@ -29,9 +26,7 @@ pub extern "C" fn rofteluvi_patch(
     address: u64,
     gp: u64,
 ) -> RofteluviAnswer
-    ensures { λ r. ⌜ answerIn r ≡ P.answerOf (P.setting (now (section .entry)) (now (values .entry)) address gp) (now (records .entry)) ⌝ }
-    ensures { λ _. ⌜ now (section .exit) ≡ P.sectionOf (P.setting (now (section .entry)) (now (values .entry)) address gp) (now (records .entry))
-        (now (section .entry)) ⌝ }
+    ensures { λ r. ⌜ Patches (now (section .entry)) (now (records .entry)) (now (values .entry)) address gp r (now (section .exit)) ⌝ }
 {
     let answer = patch::patch(section, records, values, address, gp);
     match answer {
@@ -51,7 +46,7 @@ pub extern "C" fn rofteluvi_read_back(
     offset: u64,
     kind: u32,
 ) -> RofteluviImmediate
-    ensures { λ r. ⌜ immediateIn r ≡ B.readBackOf 64 (now (section .entry)) address offset kind ⌝ }
+    ensures { λ r. ⌜ ReadsBack (now (section .entry)) address offset kind r ⌝ }
 {
     let immediate = back::read_back(section, address, offset, kind as u64);
     match immediate {

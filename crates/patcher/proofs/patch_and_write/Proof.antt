@@ -31,9 +31,10 @@ same-length-2 c = search needs
 
 returns : tie.Need-returns
 returns c =
-    let says = c .before .before .before .before .before .before .before .before .before .patch .ensures .0 .says in
+    let patched = c .before .before .before .before .before .before .before .before .before .patch .ensures in
+    let says = patched .answers .says in
     wrote (c .before .before .before .before .before .number-of .result) (c .before .before .before .before .place-of .result) (c .before .before .write .result) _ _ _ _ _
-    (c .before .before .before .before .before .number-of .ensures ∙ ap (λ (a : Answer). a .number) says) (c .before .before .before .before .place-of .ensures ∙ ap (λ (a : Answer). a .place) says) (c .before .before .before .before .before .before .before .before .before .patch .ensures .1)
+    (c .before .before .before .before .before .number-of .ensures ∙ ap (λ (a : Answer). a .number) says) (c .before .before .before .before .place-of .ensures ∙ ap (λ (a : Answer). a .place) says) (patched .leaves)
     (c .before .before .write .ensures .0) (c .before .before .write .ensures .1)
 
 pub patch-and-write-spec : {M : Type 1} → statement M

@@ -22,7 +22,7 @@ same-length c = search needs
 returns : tie.Need-returns
 returns c =
     let patched = c .before .before .before .before .before .patch in
-    (ap P.answerIn (sym (c .before .answer .given .1)) ∙ patched .ensures .0 .says, patched .ensures .1)
+    record { says = ap P.answerIn (sym (c .before .answer .given .1)) ∙ patched .ensures .answers .says; leaves = patched .ensures .leaves }
 
 same-length-2 : tie.Need-same-length-2
 same-length-2 c = search needs
@@ -30,7 +30,7 @@ same-length-2 c = search needs
 returns-2 : tie.Need-returns-2
 returns-2 c =
     let patched = c .before .before .before .before .before .patch in
-    (ap P.answerIn (sym (c .before .answer2 .given .1)) ∙ patched .ensures .0 .says, patched .ensures .1)
+    record { says = ap P.answerIn (sym (c .before .answer2 .given .1)) ∙ patched .ensures .answers .says; leaves = patched .ensures .leaves }
 
 pub rofteluvi-patch-spec : {M : Type 1} → statement M
 rofteluvi-patch-spec =

@@ -30,12 +30,14 @@ value z fits = ap (λ (y : ℤ). B.immediateIn (Value y)) (toZ-ofZ w64 z (record
 
 returns : tie.Need-returns
 returns c =
-    value (c .before .immediate .given .0 .0) (c .known-told .given .0 .1)
-    ∙ ap B.immediateIn (sym (c .before .immediate .given .1))
-    ∙ c .before .before .before .read-back .ensures .says
+    record {
+      says = value (c .before .immediate .given .0 .0) (c .known-told .given .0 .1)
+          ∙ ap B.immediateIn (sym (c .before .immediate .given .1))
+          ∙ c .before .before .before .read-back .ensures .says;
+    }
 
 returns-2 : tie.Need-returns-2
-returns-2 c = ap B.immediateIn (sym (c .before .immediate2 .given .1)) ∙ c .before .before .before .read-back .ensures .says
+returns-2 c = record { says = ap B.immediateIn (sym (c .before .immediate2 .given .1)) ∙ c .before .before .before .read-back .ensures .says }
 
 pub rofteluvi-read-back-spec : {M : Type 1} → statement M
 rofteluvi-read-back-spec =
