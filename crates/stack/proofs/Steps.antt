@@ -12,17 +12,18 @@ use Rattle.meaning.specs.Table.{Operation, dup, assert, sub, sl, sr, add, and, 
 use Rattle.meaning.specs.Stack.{depth, entry, isZero, takes, pushes}
 use Rattle.meaning.specs.Checks.{refuses}
 use Rattle.stack.specs.declared.Taken.the-variants.{Value}
-use Rattle.stack.specs.Tops.{tops, takenAt, operationOf, operationStack, operationRefusal, Puts, Operates}
+use Rattle.stack.specs.Tops.{tops, takingOf, takenIn, operationOf, operationStack, operationRefusal, Puts, Operates}
 use Rattle.stack.proofs.Numbers.{held, each}
 use Rattle.stack.specs.Laws.{length-tops}
 
 -- ---- taking an entry that is there
 
-pub took : (s : List ℤ) (h : ℕ) {z : ℤ} → (h ≡ 0 → ⊥) → z ≡ getD s (h - 1) (pos 0) → Value z (record { height = h - 1 }) ≡ takenAt s h
+pub took : (s : List ℤ) (h : ℕ) {z : ℤ} → (h ≡ 0 → ⊥) → z ≡ getD s (h - 1) (pos 0) → takenIn s (Value z (record { height = h - 1 })) ≡ takingOf (tops s h)
+unfolding tops
 took s zero n e = absurd (n refl)
 took s (suc h) n e =
     let q : suc h - 1 ≡ h = omega arith in
-    ap₂ (λ (y : ℤ) (k : ℕ). Value y (record { height = k })) (e ∙ ap (λ (k : ℕ). getD s k (pos 0)) q) q
+    rw (e, q)
 
 pub lower : {h h₁ : ℕ} → h ≡ suc h₁ → h ≤ 16 → h₁ ≤ 16
 lower e w = omega arith

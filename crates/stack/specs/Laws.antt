@@ -5,15 +5,17 @@ use native.Mathlib.Numerals.{add-one}
 use native.Mathlib.Omega.{arith}
 use mathlib.Core.Bool.{Bool, true, false, cond}
 use mathlib.Core.List.{List, [], _∷_}
-use borrow.Author.Tests.{ltb-true, ltb-false, lt-ltb, le-ltb}
+use borrow.Author.Tests.{ltb-false, lt-ltb, le-ltb}
 use lib.Dec.{ltb}
 use lib.IntN.{ℤ, pos}
-use lib.ListN.{length, getD, set, length-set}
+use lib.ListN.{length, set, length-set}
 use lib.Seq.{getD-set-same, getD-set-other}
 use Rattle.meaning.specs.Stack.{depth}
-use Rattle.stack.specs.Tops.{tops, takenAt, ifRoom, pushedAt, entriesAt, Puts}
+use Rattle.stack.specs.Tops.{tops, Taking, takingOf, takenIn, Pushing, pushingOf, pushedIn, entriesAt, Puts}
 use Rattle.stack.specs.declared.Stack.{Stack}
+use Rattle.stack.specs.declared.Taken.{Taken}
 use Rattle.stack.specs.declared.Taken.the-variants.{Value, Empty}
+use Rattle.stack.specs.declared.Pushed.{Pushed}
 use Rattle.stack.specs.declared.Pushed.the-variants.{Onto, Full}
 
 pub tops-none : (s : List ℤ) → tops s 0 ≡ []
@@ -38,43 +40,32 @@ tops-push s h z p = ap₂ _∷_ (getD-set-same s h z (pos 0) p) (tops-set s h z 
 
 -- ---- by what was answered
 
-pub taken-empty : (s : List ℤ) (h : ℕ) → takenAt s h ≡ Empty → h ≡ 0
-taken-empty s zero e = refl
-taken-empty s (suc h) e = let q : _≡_ {A = ℕ} 0 1 = cc in absurd (omega arith)
+pub taken-empty : (s : List ℤ) (h : ℕ) {r : Taken} → takenIn s r ≡ takingOf (tops s h) → r ≡ Empty → h ≡ 0
+unfolding tops
+taken-empty s zero q e = refl
+taken-empty s (suc h) q e =
+    let n : _≡_ {A = ℕ} 10 0 = ap (λ (k : Taking). k .number) (ap (takenIn s) (sym e) ∙ q) in
+    absurd (omega arith)
 
 -- z is on top of the stack of height h, and `below` is left without it
 abbrev pub Took : List ℤ → ℕ → ℤ → Stack → Type 0
 Took s h z below = (tops s h ≡ z ∷ tops s (below .height)) × (h ≡ suc (below .height))
 
-pub taken-value : (s : List ℤ) (h : ℕ) {z : ℤ} {below : Stack} → takenAt s h ≡ Value z below → Took s h z below
+pub taken-value : (s : List ℤ) (h : ℕ) {r : Taken} {z : ℤ} {below : Stack} → takenIn s r ≡ takingOf (tops s h) → r ≡ Value z below → Took s h z below
 unfolding tops
-taken-value s zero e = let q : _≡_ {A = ℕ} 0 1 = cc in absurd (omega arith)
-taken-value s (suc h) {z} {below} e =
-    let p : record { height = h } ≡ below = cc in
-    let q : getD s h (pos 0) ≡ z = cc in
-    (ap₂ (λ (y : ℤ) (k : Stack). y ∷ tops s (k .height)) q p, ap (λ (k : Stack). suc (k .height)) p)
+taken-value s zero q e =
+    let n : _≡_ {A = ℕ} 0 10 = ap (λ (k : Taking). k .number) (ap (takenIn s) (sym e) ∙ q) in
+    absurd (omega arith)
+taken-value s (suc h) {z = z} {below} q e =
+    let p : tops s (suc h) ≡ z ∷ tops s (below .height) = sym (ap (λ (k : Taking). k .value ∷ k .below) (ap (takenIn s) (sym e) ∙ q)) in
+    (p, sym (length-tops s (suc h)) ∙ ap length p ∙ ap suc (length-tops s (below .height)))
 
-pub pushed-full : (h : ℕ) → pushedAt h ≡ Full → depth ≤ h
-pushed-full h e = by (ltb h depth) refl e
-  where
-    by : (b : Bool) → ltb h depth ≡ b → ifRoom b h ≡ Full → depth ≤ h
-    by true t e = let q : _≡_ {A = ℕ} 0 1 = cc in absurd (omega arith)
-    by false t e = ltb-false h depth t
-
-pub pushed-onto : (h : ℕ) {above : Stack} → pushedAt h ≡ Onto above → (h < depth) × (above .height ≡ h + 1)
-pushed-onto h {above} e = by (ltb h depth) refl e
-  where
-    by : (b : Bool) → ltb h depth ≡ b → ifRoom b h ≡ Onto above → (h < depth) × (above .height ≡ h + 1)
-    by true t e =
-        let q : record { height = h + 1 } ≡ above = cc in
-        (ltb-true h depth t, ap (λ (k : Stack). k .height) (sym q))
-    by false t e = let q : _≡_ {A = ℕ} 0 1 = cc in absurd (omega arith)
-
--- the stack after a push that found room
-pub tops-pushed : (s : List ℤ) (h : ℕ) (z : ℤ) → length s ≡ depth → h < depth → tops (entriesAt s h z) (h + 1) ≡ z ∷ tops s h
-tops-pushed s h z l p =
+-- a push that finds room
+pub pushed : (s : List ℤ) (h : ℕ) (z : ℤ) → length s ≡ depth → h < depth → record { number = 0; above = tops (entriesAt s h z) (h + 1) } ≡ pushingOf z (tops s h)
+pushed s h z l p =
     let q : h < length s = omega arith in
-    rw (lt-ltb h depth p, add-one) (tops-push s h z q)
+    let few : suc (length (tops s h)) ≤ depth = rw length-tops p in
+    rw (lt-ltb h depth p, add-one, le-ltb depth (suc (length (tops s h))) few, tops-push s h z q)
 
 length-entries : (s : List ℤ) (h : ℕ) (z : ℤ) → length (entriesAt s h z) ≡ length s
 length-entries s h z = by (ltb h depth)
@@ -83,25 +74,41 @@ length-entries s h z = by (ltb h depth)
     by true = length-set s h z
     by false = refl
 
--- what `push` ensures, by what it answered
-pub no-room : (s : List ℤ) (h : ℕ) (z : ℤ) {s′ : List ℤ} → h ≤ 16 → length s ≡ 16 → pushedAt h ≡ Full → s′ ≡ entriesAt s h z → Puts s h z 11 s′ h
-no-room s h z w l e q =
-    let p : depth < suc h = omega (arith, pushed-full h e) in
-    record {
-      answers = simp (length-tops, lt-ltb depth (suc h) p);
-      becomes = λ r. absurd (omega arith);
-      within = w;
-      long = ap length q ∙ length-entries s h z ∙ l;
-    }
+-- a push is refused, or it finds room
+pushing-number : (z : ℤ) (st : List ℤ) → pushingOf z st .number ≡ cond (ltb depth (length (z ∷ st))) 11 0
+pushing-number z st = by (ltb depth (length (z ∷ st)))
+  where
+    by : (b : Bool) → cond {A = Pushing} b (record { number = 11; above = [] }) (record { number = 0; above = z ∷ st }) .number ≡ cond b 11 0
+    by true = refl
+    by false = refl
 
-pub room : (s : List ℤ) (h : ℕ) (z : ℤ) {s′ : List ℤ} {above : Stack} → length s ≡ 16 → pushedAt h ≡ Onto above → s′ ≡ entriesAt s h z
-    → Puts s h z 0 s′ (above .height)
-room s h z l e q =
-    let p = pushed-onto h e in
-    let r : suc h ≤ depth = omega (arith, p .0) in
-    record {
-      answers = simp (length-tops, le-ltb depth (suc h) r);
-      becomes = λ r. rw (q, p .1) (tops-pushed s h z l (p .0));
-      within = omega (arith, p .0, p .1);
-      long = ap length q ∙ length-entries s h z ∙ l;
-    }
+pushing-room : (z : ℤ) (st : List ℤ) → pushingOf z st .number ≡ 0 → (pushingOf z st .above ≡ z ∷ st) × (length (z ∷ st) ≤ depth)
+pushing-room z st e = by (ltb depth (length (z ∷ st))) refl
+  where
+    by : (b : Bool) → ltb depth (length (z ∷ st)) ≡ b → (pushingOf z st .above ≡ z ∷ st) × (length (z ∷ st) ≤ depth)
+    by true t = let n : _≡_ {A = ℕ} 11 0 = rw t at e in absurd (omega arith)
+    by false t = (rw t, ltb-false depth (length (z ∷ st)) t)
+
+-- what `push` ensures, by what it answered
+module _ (s : List ℤ) (h : ℕ) (z : ℤ) {s′ : List ℤ} {r : Pushed} (l : length s ≡ 16) (q : pushedIn s′ r ≡ pushingOf z (tops s h)) (f : s′ ≡ entriesAt s h z) where
+  pub no-room : h ≤ 16 → r ≡ Full → Puts s h z 11 s′ h
+  no-room w e =
+      let is : pushedIn s′ Full ≡ pushingOf z (tops s h) = ap (pushedIn s′) (sym e) ∙ q in
+      record {
+        answers = ap (λ (k : Pushing). k .number) is ∙ pushing-number z (tops s h);
+        becomes = λ r. absurd (omega arith);
+        within = w;
+        long = ap length f ∙ length-entries s h z ∙ l;
+      }
+
+  pub room : {above : Stack} → r ≡ Onto above → Puts s h z 0 s′ (above .height)
+  room {above} e =
+      let is : pushedIn s′ (Onto above) ≡ pushingOf z (tops s h) = ap (pushedIn s′) (sym e) ∙ q in
+      let found = pushing-room z (tops s h) (sym (ap (λ (k : Pushing). k .number) is)) in
+      let becomes : tops s′ (above .height) ≡ z ∷ tops s h = ap (λ (k : Pushing). k .above) is ∙ found .0 in
+      record {
+        answers = ap (λ (k : Pushing). k .number) is ∙ pushing-number z (tops s h);
+        becomes = λ r. becomes;
+        within = omega (arith, found .1, length-tops s′ (above .height), ap length becomes);
+        long = ap length f ∙ length-entries s h z ∙ l;
+      }

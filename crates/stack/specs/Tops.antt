@@ -1,7 +1,7 @@
 -- The stack as a list, the top first, and what taking, pushing and the operations do with it.
 use mathlib.Core.Path.{_≡_}
-use Prim.Native.Nat.{ℕ, zero, suc, _+_, _≤_}
-use mathlib.Core.Bool.{Bool, true, false, cond}
+use Prim.Native.Nat.{ℕ, zero, suc, _≤_}
+use mathlib.Core.Bool.{cond}
 use mathlib.Core.List.{List, [], _∷_, _++_}
 use lib.Dec.{ltb}
 use lib.IntN.{ℤ, pos}
@@ -20,19 +20,37 @@ unfoldable pub tops : List ℤ → ℕ → List ℤ
 tops s zero = []
 tops s (suc h) = getD s h (pos 0) ∷ tops s h
 
--- what taking an entry answers
-abbrev pub takenAt : List ℤ → ℕ → Taken
-takenAt s zero = Empty
-takenAt s (suc h) = Value (getD s h (pos 0)) (record { height = h })
+-- What taking an entry gives: a number of refusal, 0 for none, the value, and the stack below it.
+pub record Taking : Type 0 where
+  pub number : ℕ
+  pub value : ℤ
+  pub below : List ℤ
 
--- what pushing an entry answers, and the entries then
-abbrev pub ifRoom : Bool → ℕ → Pushed
-ifRoom true h = Onto (record { height = h + 1 })
-ifRoom false h = Full
+-- "either the value with the stack below it, or refusal 10"
+abbrev pub takingOf : List ℤ → Taking
+takingOf [] = record { number = 10; value = pos 0; below = [] }
+takingOf (z ∷ st) = record { number = 0; value = z; below = st }
 
-abbrev pub pushedAt : ℕ → Pushed
-pushedAt h = ifRoom (ltb h depth) h
+-- The cases of the code's answer by document 01's number and values, with the entries in s.
+abbrev pub takenIn : List ℤ → Taken → Taking
+takenIn s (Value z below) = record { number = 0; value = z; below = tops s (below .height) }
+takenIn s Empty = record { number = 10; value = pos 0; below = [] }
 
+-- What pushing an entry gives: a number of refusal, 0 for none, and the stack then.
+pub record Pushing : Type 0 where
+  pub number : ℕ
+  pub above : List ℤ
+
+-- a seventeenth entry is refusal 11
+abbrev pub pushingOf : ℤ → List ℤ → Pushing
+pushingOf z st = cond (ltb depth (length (z ∷ st))) (record { number = 11; above = [] }) (record { number = 0; above = z ∷ st })
+
+-- The cases of the code's answer.
+abbrev pub pushedIn : List ℤ → Pushed → Pushing
+pushedIn s (Onto above) = record { number = 0; above = tops s (above .height) }
+pushedIn s Full = record { number = 11; above = [] }
+
+-- the entries after a push
 abbrev pub entriesAt : List ℤ → ℕ → ℤ → List ℤ
 entriesAt s h z = cond (ltb h depth) (set s h z) s
 

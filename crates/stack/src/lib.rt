@@ -9,17 +9,19 @@ ghost use lib.ListN.{length};
 ghost use Rattle.meaning.specs.Table as T;
 ghost use Rattle.meaning.specs.Stack as M;
 ghost use Rattle.meaning.specs.Checks.{notCount, refuses};
-ghost use Rattle.stack.specs.Tops.{tops, takenAt, pushedAt, entriesAt, operationOf, Puts, Operates};
+ghost use Rattle.stack.specs.Tops.{tops, takingOf, takenIn, pushingOf, pushedIn, entriesAt, operationOf, Puts, Operates};
 
 pub struct Stack {
     pub height: usize,
 }
 
+// What taking an entry gives: the value with the stack below it, or that there is none.
 pub enum Taken {
     Value(i64, Stack),
     Empty,
 }
 
+// What pushing an entry gives: the stack with it, or that there is no room.
 pub enum Pushed {
     Onto(Stack),
     Full,
@@ -34,6 +36,11 @@ pub struct Operated {
 impl Stack {
     pub const DEPTH: usize = 16;
 
+    // The refusals where there is none to take, and no room for a seventeenth.
+    pub const TOO_FEW: u32 = 10;
+
+    pub const TOO_MANY: u32 = 11;
+
     pub fn empty() -> Stack
         ensures { λ r. ⌜ r .height ≡ 0 ⌝ }
     {
@@ -42,7 +49,7 @@ impl Stack {
 
     pub fn take(self, entries: &[i64; Stack::DEPTH]) -> Taken
         requires { ⌜ self .height ≤ 16 ⌝ }
-        ensures { λ r. ⌜ r ≡ takenAt (now (entries .entry)) (self .height) ⌝ }
+        ensures { λ r. ⌜ takenIn (now (entries .entry)) r ≡ takingOf (tops (now (entries .entry)) (self .height)) ⌝ }
     {
         let height = self.height;
         if height == 0 {
@@ -53,8 +60,9 @@ impl Stack {
     }
 
     pub fn push(self, entries: &mut [i64; Stack::DEPTH], z: i64) -> Pushed
-        requires { ⌜ self .height ≤ 16 ⌝ }
-        ensures { λ r. ⌜ (r ≡ pushedAt (self .height)) × (now (entries .exit) ≡ entriesAt (now (entries .entry)) (self .height) z) ⌝ }
+        requires { ⌜ (self .height ≤ 16) × (length (now entries) ≡ 16) ⌝ }
+        ensures { λ r. ⌜ (pushedIn (now (entries .exit)) r ≡ pushingOf z (tops (now (entries .entry)) (self .height)))
+            × (now (entries .exit) ≡ entriesAt (now (entries .entry)) (self .height) z) ⌝ }
     {
         let height = self.height;
         if height == Stack::DEPTH {
@@ -123,13 +131,16 @@ fn binary(operation: u32, opr1: i64, opr2: i64) -> i64
     }
 }
 
-// A push with its refusal: 11 where there is no room.
+// A push with its refusal.
 pub fn put(entries: &mut [i64; Stack::DEPTH], stack: Stack, z: i64) -> Operated
     requires { ⌜ (stack .height ≤ 16) × (length (now entries) ≡ 16) ⌝ }
     ensures { λ r. ⌜ Puts (now (entries .entry)) (stack .height) z (r .refusal) (now (entries .exit)) (r .stack .height) ⌝ }
 {
     let Pushed::Onto(above) = stack.push(entries, z) else {
-        return Operated { refusal: 11, stack };
+        return Operated {
+            refusal: Stack::TOO_MANY,
+            stack,
+        };
     };
     Operated {
         refusal: 0,
@@ -144,7 +155,10 @@ fn unary(operation: u32, entries: &mut [i64; Stack::DEPTH], stack: Stack) -> Ope
     ensures { λ r. ⌜ Operates (operationOf operation) (tops (now (entries .entry)) (stack .height)) (r .refusal) (now (entries .exit)) (r .stack .height) ⌝ }
 {
     let Taken::Value(top, below) = stack.take(entries) else {
-        return Operated { refusal: 10, stack };
+        return Operated {
+            refusal: Stack::TOO_FEW,
+            stack,
+        };
     };
     match operation {
         0 => put(entries, stack, top),
@@ -163,10 +177,16 @@ fn pair(operation: u32, entries: &mut [i64; Stack::DEPTH], stack: Stack) -> Oper
     ensures { λ r. ⌜ Operates (operationOf operation) (tops (now (entries .entry)) (stack .height)) (r .refusal) (now (entries .exit)) (r .stack .height) ⌝ }
 {
     let Taken::Value(opr2, under) = stack.take(entries) else {
-        return Operated { refusal: 10, stack };
+        return Operated {
+            refusal: Stack::TOO_FEW,
+            stack,
+        };
     };
     let Taken::Value(opr1, below) = under.take(entries) else {
-        return Operated { refusal: 10, stack };
+        return Operated {
+            refusal: Stack::TOO_FEW,
+            stack,
+        };
     };
     let refusal = refused(operation, opr2);
     if refusal != 0 {
@@ -181,13 +201,22 @@ fn choose(entries: &mut [i64; Stack::DEPTH], stack: Stack) -> Operated
     ensures { λ r. ⌜ Operates T.if-else (tops (now (entries .entry)) (stack .height)) (r .refusal) (now (entries .exit)) (r .stack .height) ⌝ }
 {
     let Taken::Value(opr3, second) = stack.take(entries) else {
-        return Operated { refusal: 10, stack };
+        return Operated {
+            refusal: Stack::TOO_FEW,
+            stack,
+        };
     };
     let Taken::Value(opr2, third) = second.take(entries) else {
-        return Operated { refusal: 10, stack };
+        return Operated {
+            refusal: Stack::TOO_FEW,
+            stack,
+        };
     };
     let Taken::Value(opr1, below) = third.take(entries) else {
-        return Operated { refusal: 10, stack };
+        return Operated {
+            refusal: Stack::TOO_FEW,
+            stack,
+        };
     };
     put(entries, below, either(is_zero(opr1), opr3, opr2))
 }

@@ -226,7 +226,7 @@ fn stack_word(
         return refused(9, stack);
     }
     let Taken::Value(z, below) = stack.take(entries) else {
-        return refused(10, stack);
+        return refused(Stack::TOO_FEW, stack);
     };
     let row = table::row_of(rows, rela.kind);
     Done {

@@ -1,5 +1,5 @@
 -- `stack::choose` meets its contract. Assumes nothing.
-use mathlib.Core.Path.{sym, ap, _∙_}
+use mathlib.Core.Path.{ap, _∙_}
 use Prim.Native.Nat.{suc}
 use lib.Dec.{lit<}
 use Rattle.meaning.specs.Table.{if-else}
@@ -12,13 +12,13 @@ use Rattle.stack.proofs.choose.Tie as tie
 
 -- what the taken entries say of the stack
 took : (k : tie.After-known-told) → Took (k .before .before .before .before .before .args .entries .now) (k .before .before .before .before .before .args .stack .height) (k .before .opr3 .given .0 .0) (k .before .opr3 .given .0 .1 .0)
-took k = taken-value _ _ (sym (k .before .before .before .take .ensures) ∙ k .before .opr3 .given .1)
+took k = taken-value _ _ (k .before .before .before .take .ensures) (k .before .opr3 .given .1)
 
 took2 : (k : tie.After-known-told2) → Took (k .before .before .before .before .before .before .before .before .before .before .args .entries .now) (k .before .before .before .before .before .before .opr3 .given .0 .1 .0 .height) (k .before .opr2 .given .0 .0) (k .before .opr2 .given .0 .1 .0)
-took2 k = taken-value _ _ (sym (k .before .before .before .take2 .ensures) ∙ k .before .opr2 .given .1)
+took2 k = taken-value _ _ (k .before .before .before .take2 .ensures) (k .before .opr2 .given .1)
 
 took3 : (k : tie.After-known-told3) → Took (k .before .before .before .before .before .before .before .before .before .before .before .before .before .before .before .args .entries .now) (k .before .before .before .before .before .before .opr2 .given .0 .1 .0 .height) (k .before .opr1 .given .0 .0) (k .before .opr1 .given .0 .1 .0)
-took3 k = taken-value _ _ (sym (k .before .before .before .take3 .ensures) ∙ k .before .opr1 .given .1)
+took3 k = taken-value _ _ (k .before .before .before .take3 .ensures) (k .before .opr1 .given .1)
 
 take-requires : tie.Need-take-requires
 take-requires c κs = c .before .pre .0
@@ -34,7 +34,7 @@ returns c =
     let start = c .before .before .before .before in
     let s = start .args .entries .now in
     let h = start .args .stack .height in
-    none if-else s h (taken-empty s h (sym (c .before .before .take .ensures) ∙ c .enum-told .given .1)) (start .pre .1)
+    none if-else s h (taken-empty s h (c .before .before .take .ensures) (c .enum-told .given .1)) (start .pre .1)
 
 take-requires-2 : tie.Need-take-requires-2
 take-requires-2 c κs = lower (took (c .before) .1) (c .before .before .before .before .before .before .pre .0)
@@ -49,7 +49,7 @@ returns-2 : tie.Need-returns-2
 returns-2 c =
     let start = c .before .before .before .before .before .before .before .before .before in
     let s = start .args .entries .now in
-    let e = taken-empty s (c .before .before .before .before .before .opr3 .given .0 .1 .0 .height) (sym (c .before .before .take2 .ensures) ∙ c .enum-told2 .given .1) in
+    let e = taken-empty s (c .before .before .before .before .before .opr3 .given .0 .1 .0 .height) (c .before .before .take2 .ensures) (c .enum-told2 .given .1) in
     few if-else s (start .args .stack .height) 1 (took (c .before .before .before .before) .1 ∙ ap suc e) (lit< tt) (start .pre .0) (start .pre .1)
 
 take-requires-3 : tie.Need-take-requires-3
@@ -65,7 +65,7 @@ returns-3 : tie.Need-returns-3
 returns-3 c =
     let start = c .before .before .before .before .before .before .before .before .before .before .before .before .before .before in
     let s = start .args .entries .now in
-    let e = taken-empty s (c .before .before .before .before .before .opr2 .given .0 .1 .0 .height) (sym (c .before .before .take3 .ensures) ∙ c .enum-told3 .given .1) in
+    let e = taken-empty s (c .before .before .before .before .before .opr2 .given .0 .1 .0 .height) (c .before .before .take3 .ensures) (c .enum-told3 .given .1) in
     few if-else s (start .args .stack .height) 2 (took (c .before .before .before .before .before .before .before .before .before) .1 ∙ ap suc (took2 (c .before .before .before .before) .1 ∙ ap suc e)) (lit< tt) (start .pre .0) (start .pre .1)
 
 is-zero-requires : tie.Need-is-zero-requires

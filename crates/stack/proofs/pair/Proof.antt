@@ -11,10 +11,10 @@ use Rattle.stack.proofs.pair.Tie as tie
 
 -- what the taken entries say of the stack
 took : (k : tie.After-known-told) → Took (k .before .before .before .before .before .args .entries .now) (k .before .before .before .before .before .args .stack .height) (k .before .opr2 .given .0 .0) (k .before .opr2 .given .0 .1 .0)
-took k = taken-value _ _ (sym (k .before .before .before .take .ensures) ∙ k .before .opr2 .given .1)
+took k = taken-value _ _ (k .before .before .before .take .ensures) (k .before .opr2 .given .1)
 
 took2 : (k : tie.After-known-told2) → Took (k .before .before .before .before .before .before .before .before .before .before .args .entries .now) (k .before .before .before .before .before .before .opr2 .given .0 .1 .0 .height) (k .before .opr1 .given .0 .0) (k .before .opr1 .given .0 .1 .0)
-took2 k = taken-value _ _ (sym (k .before .before .before .take2 .ensures) ∙ k .before .opr1 .given .1)
+took2 k = taken-value _ _ (k .before .before .before .take2 .ensures) (k .before .opr1 .given .1)
 
 take-requires : tie.Need-take-requires
 take-requires c κs = c .before .pre .1 .0
@@ -30,7 +30,7 @@ returns c =
     let start = c .before .before .before .before in
     let s = start .args .entries .now in
     let h = start .args .stack .height in
-    none (operationOf (start .args .operation)) s h (taken-empty s h (sym (c .before .before .take .ensures) ∙ c .enum-told .given .1)) (start .pre .1 .1)
+    none (operationOf (start .args .operation)) s h (taken-empty s h (c .before .before .take .ensures) (c .enum-told .given .1)) (start .pre .1 .1)
 
 take-requires-2 : tie.Need-take-requires-2
 take-requires-2 c κs = lower (took (c .before) .1) (c .before .before .before .before .before .before .pre .1 .0)
@@ -46,7 +46,7 @@ returns-2 c =
     let start = c .before .before .before .before .before .before .before .before .before in
     let s = start .args .entries .now in
     let n = start .args .operation in
-    let e = taken-empty s (c .before .before .before .before .before .opr2 .given .0 .1 .0 .height) (sym (c .before .before .take2 .ensures) ∙ c .enum-told2 .given .1) in
+    let e = taken-empty s (c .before .before .before .before .before .opr2 .given .0 .1 .0 .height) (c .before .before .take2 .ensures) (c .enum-told2 .given .1) in
     few (operationOf n) s (start .args .stack .height) 1 (took (c .before .before .before .before) .1 ∙ ap suc e) (one-short n (start .pre .0 .0) (start .pre .0 .1)) (start .pre .1 .0) (start .pre .1 .1)
 
 refused-requires : tie.Need-refused-requires

@@ -1,6 +1,4 @@
 -- `stack::put` meets its contract. Assumes nothing.
-use mathlib.Core.Path.{sym, ap, _∙_}
-use Rattle.stack.specs.Tops.{entriesAt}
 use Rattle.stack.specs.Laws.{no-room, room}
 use Rattle.stack.proofs.Numbers.{same}
 use borrow.Author.Needs.{needs}
@@ -23,9 +21,8 @@ returns c =
     let s = start .args .entries .now in
     let h = start .args .stack .height in
     let z = start .args .z in
-    no-room s h z (start .pre .0) (start .pre .1)
-    (sym (push .ensures .0) ∙ c .enum-told .given .1)
-    (push .ensures .1 ∙ ap (entriesAt s h) (same z (start .fits .z .sfits)))
+    let e = same z (start .fits .z .sfits) in
+    no-room s h z (start .pre .1) (rw e at (push .ensures .0)) (rw e at (push .ensures .1)) (start .pre .0) (c .enum-told .given .1)
 
 returns-2 : tie.Need-returns-2
 returns-2 c =
@@ -34,9 +31,8 @@ returns-2 c =
     let s = start .args .entries .now in
     let h = start .args .stack .height in
     let z = start .args .z in
-    room s h z (start .pre .1)
-    (sym (push .ensures .0) ∙ c .before .above .given .1)
-    (push .ensures .1 ∙ ap (entriesAt s h) (same z (start .fits .z .sfits)))
+    let e = same z (start .fits .z .sfits) in
+    room s h z (start .pre .1) (rw e at (push .ensures .0)) (rw e at (push .ensures .1)) (c .before .above .given .1)
 
 pub put-spec : {M : Type 1} → statement M
 put-spec = tie.close (tie.spec push-requires enum-known-above enum-told returns returns-2)

@@ -1,5 +1,5 @@
 -- `stack::unary` meets its contract. Assumes nothing.
-use mathlib.Core.Path.{_≡_, sym, _∙_}
+use mathlib.Core.Path.{_≡_}
 use native.Mathlib.Omega.{arith}
 use Rattle.stack.specs.Tops.{operationOf}
 use Rattle.stack.specs.Laws.{Took, taken-empty, taken-value}
@@ -11,7 +11,7 @@ use Rattle.stack.proofs.unary.Tie as tie
 
 -- what the taken entry says of the stack
 took : (k : tie.After-known-told) → Took (k .before .before .before .before .before .args .entries .now) (k .before .before .before .before .before .args .stack .height) (k .before .top .given .0 .0) (k .before .top .given .0 .1 .0)
-took k = taken-value _ _ (sym (k .before .before .before .take .ensures) ∙ k .before .top .given .1)
+took k = taken-value _ _ (k .before .before .before .take .ensures) (k .before .top .given .1)
 
 take-requires : tie.Need-take-requires
 take-requires c κs = c .before .pre .1 .0
@@ -27,7 +27,7 @@ returns c =
     let start = c .before .before .before .before in
     let s = start .args .entries .now in
     let h = start .args .stack .height in
-    none (operationOf (start .args .operation)) s h (taken-empty s h (sym (c .before .before .take .ensures) ∙ c .enum-told .given .1)) (start .pre .1 .1)
+    none (operationOf (start .args .operation)) s h (taken-empty s h (c .before .before .take .ensures) (c .enum-told .given .1)) (start .pre .1 .1)
 
 put-requires : tie.Need-put-requires
 put-requires c κs = search needs

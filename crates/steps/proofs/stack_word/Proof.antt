@@ -80,7 +80,7 @@ returns-3 c =
     (empty-stack (b .args .setting .size) values (b .args .setting .address) (b .args .setting .gp) (asRecord (b .args .rela))
     (b .args .entries .now) (b .args .stack .height) (b .pre .1 .0 .low) (b .pre .1 .1) (partsOf d) (rangeOf d)
     (sym (place .outside .ensures) ∙ pc .before .if1 .left) (unaligned-no _ _ (pc .plus .ensures) (took .before .if2 .left))
-    (taken-empty (b .args .entries .now) (b .args .stack .height) (sym (took .take .ensures) ∙ c .before .enum-told .given .1)) (c .refused3 .ensures)
+    (taken-empty (b .args .entries .now) (b .args .stack .height) (took .take .ensures) (c .before .enum-told .given .1)) (c .refused3 .ensures)
     (b .pre .1 .0 .low))
 
 row-of-requires : tie.Need-row-of-requires
@@ -105,7 +105,7 @@ returns-4 c =
     (goes-stack (b .args .setting .size) values (b .args .setting .address) (b .args .setting .gp) (asRecord (b .args .rela))
     (b .args .entries .now) (b .args .stack .height) (b .pre .1 .0 .low) (b .pre .1 .1) (partsOf d) (rangeOf d)
     (sym (place .outside .ensures) ∙ pc .before .if1 .left) (unaligned-no _ _ (pc .plus .ensures) (took .before .if2 .left)) _ _
-    (taken-value (b .args .entries .now) (b .args .stack .height) (sym (took .take .ensures) ∙ known .before .z .given .1))
+    (taken-value (b .args .entries .now) (b .args .stack .height) (took .take .ensures) (known .before .z .given .1))
     _ (c .before .bits .ensures ∙ ap (bitsOf 64) (passed (known .before .z .given .0 .0) _ (known .known-told .given .0 .1) refl))
     (known .known-told .given .0 .1) (c .range-refusal .ensures) refl)
 

@@ -33,7 +33,7 @@ returns : tie.Need-returns
 returns c =
     let took = c .before .before in
     let b = took .before .before in
-    let none : b .args .stack .height ≡ 0 = taken-empty (b .args .entries .now) (b .args .stack .height) (sym (took .take .ensures) ∙ c .enum-told .given .1) in
+    let none : b .args .stack .height ≡ 0 = taken-empty (b .args .entries .now) (b .args .stack .height) (took .take .ensures) (c .enum-told .given .1) in
     absurd (omega arith)
 
 row-of-requires : tie.Need-row-of-requires
@@ -55,7 +55,7 @@ returns-2 c =
     let took = known .before .before .before in
     let b = took .before .before in
     let st = tops (b .args .entries .now) (b .args .stack .height) in
-    let top = taken-value (b .args .entries .now) (b .args .stack .height) (sym (took .take .ensures) ∙ known .before .z .given .1) in
+    let top = taken-value (b .args .entries .now) (b .args .stack .height) (took .take .ensures) (known .before .z .given .1) in
     let first : entry st 0 ≡ known .before .z .given .0 .0 = rw (top .0) in
     let value : call .before .bits .result ≡ bitsOf 64 (entry st 0) =
     call .before .bits .ensures ∙ ap (bitsOf 64) (passed (known .before .z .given .0 .0) _ (known .known-told .given .0 .1) (sym first)) in (

@@ -1,4 +1,5 @@
 -- `stack::Stack::take` meets its contract. Assumes nothing.
+use Rattle.stack.specs.Laws.{tops-none}
 use Rattle.stack.proofs.Numbers.{same}
 use Rattle.stack.proofs.Steps.{took}
 use borrow.Author.Needs.{needs}
@@ -6,7 +7,7 @@ use Rattle.stack.proofs.Stack.take.Statement.{statement}
 use Rattle.stack.proofs.Stack.take.Tie as tie
 
 returns : tie.Need-returns
-returns c = search needs
+returns c = rw (c .if1 .taken, tops-none)
 
 sub-top : tie.Need-sub-top
 sub-top c = search needs
