@@ -10,7 +10,7 @@ use borrow.Author.Tests.{ltb-false, le-ltb}
 use borrow.Rule.Slice.PartMut.{putMid}
 use lib.Dec.{T, leb, leb→le, eqb·suc-zero}
 use lib.IntN.{ℤ}
-use lib.ListN.{length, take, drop, length-drop, drop-of-length-le}
+use lib.ListN.{length, take, drop, drop-of-length-le}
 use lib.Seq.{take-all}
 use Rattle.meaning.proofs.Sound.{sound}
 use Rattle.meaning.specs.Numbers.{number, bytesOf, plus, minus}
@@ -32,7 +32,16 @@ use Rattle.table.specs.Laws.{class-push, class-operation, class-stack-word, cla
 use Rattle.table.specs.Words.{put-columns}
 use Rattle.steps.specs.Refusal.{refusalOf, low-symbol, refusal-operation}
 use Rattle.steps.specs.Step.{given}
-use Rattle.writers.specs.Written.{renewed, Holds, Leaves}
+use Rattle.writers.specs.Written.{Holds, Leaves}
+
+-- ---- a part of n bytes, read and stored whole
+
+module _ (n : ℕ) (s : List ℕ) (whole : length s ≡ n) where
+  pub read : number (take n s) ≡ number s
+  read = ap number (take-all n s (omega arith))
+
+  pub stored : (x : ℕ) → bytesOf n x ++ drop n s ≡ bytesOf n x
+  stored x = let l : length s ≤ n = omega arith in rw (drop-of-length-le s l, append-nil)
 
 -- ---- a row's numbers, and a word by them
 
@@ -58,30 +67,28 @@ module _ (row : Row) (kind : ℕ) (e : row ≡ columns (semantics kind)) where
   pub way-fits : row .way ≤ 2
   way-fits = rw e (fits-at kind .way)
 
-  module _ (x old high : ℕ) (s part : List ℕ) (a : old ≡ number (take 4 s))
+  module _ (x old high : ℕ) (s part : List ℕ) (word : length s ≡ 4) (a : old ≡ number (take 4 s))
       (b : high ≡ splice (row .at) (row .many) (slice (row .low) (row .many) x) old) where
     -- two insertions are the field
     pub two-parts : (new : ℕ) → new ≡ splice (row .at2) (row .many2) (slice (row .low2) (row .many2) x) high →
-        part ≡ bytesOf 4 new ++ drop 4 s → part ≡ renewed 4 (put (partsOf (semantics kind)) x) s
-    two-parts new c d = rw (d, c, b, a, e, put-columns kind x (number (take 4 s)))
+        part ≡ bytesOf 4 new ++ drop 4 s → part ≡ bytesOf 4 (put (partsOf (semantics kind)) x (number s))
+    two-parts new c d = d ∙ stored 4 s word new ∙ rw (c, b, a, read 4 s word, e, put-columns kind x (number s))
 
     -- and so is one where the second part has no bits
-    pub one-part : row .many2 ≡ 0 → part ≡ bytesOf 4 high ++ drop 4 s → part ≡ renewed 4 (put (partsOf (semantics kind)) x) s
+    pub one-part : row .many2 ≡ 0 → part ≡ bytesOf 4 high ++ drop 4 s → part ≡ bytesOf 4 (put (partsOf (semantics kind)) x (number s))
     one-part none d =
         two-parts high (rw none (sym (splice-none (row .at2) (row .low2) x high))) d
 
 -- ---- data
 
-module _ (n x : ℕ) (s part : List ℕ) (few : n ≤ 8) where
-  pub added : part ≡ renewed n (plus 64 x) s → part ≡ renewed n (combined add-to n x) s
+module _ (n x old : ℕ) (part : List ℕ) (few : n ≤ 8) where
+  pub added : part ≡ bytesOf n (plus 64 x old) → part ≡ bytesOf n (combined add-to n x old)
   added d =
-      let old = number (take n s) in
       let turned : plus 64 x old ≡ plus 64 old x = omega arith in
       rw (d, turned, bytes-plus n old x few)
 
-  pub subtracted : (y : ℕ) → y ≡ minus 64 0 x → part ≡ renewed n (plus 64 y) s → part ≡ renewed n (combined subtract-from n x) s
+  pub subtracted : (y : ℕ) → y ≡ minus 64 0 x → part ≡ bytesOf n (plus 64 y old) → part ≡ bytesOf n (combined subtract-from n x old)
   subtracted y h d =
-      let old = number (take n s) in
       let turned : plus 64 (minus 64 0 x) old ≡ minus 64 old x = omega arith in
       rw (d, h, turned, bytes-minus n old x few)
 
@@ -92,12 +99,10 @@ two (suc (suc n)) h a b = omega arith
 
 -- ---- the section
 
--- the part from `at` to the end, lent, and put back renewed
-pub returned : (at n : ℕ) (f : ℕ → ℕ) (s part : List ℕ) → part ≡ renewed n f (take (length s - at) (drop at s)) →
-    putMid at (length s - at) s part ≡ replaced at n f s
-returned at n f s part h =
-    let l : length (drop at s) ≤ length s - at = simp length-drop (omega arith) in
-    rw (h, take-all (length s - at) (drop at s) l, drop-of-length-le (drop at s) l, append-nil)
+-- the n bytes at `at`, lent, and put back with another number
+pub returned : (at n : ℕ) (f : ℕ → ℕ) (s part : List ℕ) → part ≡ bytesOf n (f (number (take (at + n - at) (drop at s)))) →
+    putMid at (at + n - at) s part ≡ replaced at n f s
+returned at n f s part h = let e : at + n - at ≡ n = omega arith in rw (h, e)
 
 inside : (size at n : ℕ) → 1 ≤ n → outside size at n ≡ false → at + n ≤ size
 inside size at zero some h = absurd (not-suc-le-zero some)

@@ -1,19 +1,14 @@
 -- What a judged record writes and leaves on the stack.
 use Prim.Native.Nat.{ℕ, _≤_}
-use mathlib.Core.List.{List, _++_}
+use mathlib.Core.List.{List}
 use mathlib.Core.Path.{_≡_}
 use lib.IntN.{ℤ}
-use lib.ListN.{length, take, drop}
-use Rattle.meaning.specs.Numbers.{number, bytesOf}
+use lib.ListN.{length}
 use Rattle.meaning.specs.Table.{Semantics}
 use Rattle.meaning.specs.Call.{Setting, Record}
 use Rattle.meaning.specs.Stack.{Stack, after}
 use Rattle.stack.specs.Tops.{tops}
 use Rattle.steps.specs.Refusal.{refusalOf}
-
--- the first n bytes of a part, as a number, replaced by a function of it
-abbrev pub renewed : ℕ → (ℕ → ℕ) → List ℕ → List ℕ
-renewed n f part = bytesOf n (f (number (take n part))) ++ drop n part
 
 -- The entries hold the stack st, of this height.
 pub record Holds (st : Stack) (entries : List ℤ) (height : ℕ) : Type 0 where

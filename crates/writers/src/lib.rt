@@ -9,7 +9,7 @@ ghost use mathlib.Core.Path.{_≡_};
 ghost use mathlib.Core.List.{_∷_};
 ghost use Prim.Native.Nat.{_+_, _/_, _≤_, _<_};
 ghost use lib.ListN.{length, drop};
-ghost use Rattle.meaning.specs.Numbers.{plus, signed, bitsOf};
+ghost use Rattle.meaning.specs.Numbers.{number, bytesOf, plus, signed, bitsOf};
 ghost use Rattle.meaning.specs.Table.{semantics};
 ghost use Rattle.meaning.specs.Field as F;
 ghost use Rattle.meaning.specs.Call.{formula};
@@ -19,12 +19,12 @@ ghost use Rattle.stack.specs.Tops.{tops, operationOf, operationStack, operation
 ghost use Rattle.table.specs.Columns.{columns, lines, partsOf, formulaOf};
 ghost use Rattle.table.specs.Laws.{wayFrom};
 ghost use Rattle.steps.specs.Step.{asRecord, given};
-ghost use Rattle.writers.specs.Written.{renewed, Holds, Judged, Leaves};
+ghost use Rattle.writers.specs.Written.{Holds, Judged, Leaves};
 
 // A word's field: each part of the value's bits shifted and masked into it. Most fields have one part.
 fn write_word(part: &mut [u8], row: Row, kind: u64, x: u64)
-    requires { ⌜ (row ≡ columns (semantics kind)) × (4 ≤ length (now part)) ⌝ }
-    ensures { λ _. ⌜ now (part .exit) ≡ renewed 4 (F.put (partsOf (semantics kind)) x) (now (part .entry)) ⌝ }
+    requires { ⌜ (row ≡ columns (semantics kind)) × (length (now part) ≡ 4) ⌝ }
+    ensures { λ _. ⌜ now (part .exit) ≡ bytesOf 4 (F.put (partsOf (semantics kind)) x (number (now (part .entry)))) ⌝ }
 {
     let old = bytes_le::get_u32(part, 0);
     let high = fields::insert(old, x, row.low, row.many, row.at);
@@ -37,8 +37,8 @@ fn write_word(part: &mut [u8], row: Row, kind: u64, x: u64)
 }
 
 fn add(part: &mut [u8], n: usize, x: u64)
-    requires { ⌜ (n ≤ 8) × (n ≤ length (now part)) ⌝ }
-    ensures { λ _. ⌜ now (part .exit) ≡ renewed n (plus 64 x) (now (part .entry)) ⌝ }
+    requires { ⌜ (n ≤ 8) × (length (now part) ≡ n) ⌝ }
+    ensures { λ _. ⌜ now (part .exit) ≡ bytesOf n (plus 64 x (number (now (part .entry)))) ⌝ }
 {
     let old = bytes_le::get(part, n);
     bytes_le::put(part, n, numbers::plus(x, old));
@@ -46,8 +46,8 @@ fn add(part: &mut [u8], n: usize, x: u64)
 
 // x added to n bytes. With each width written out the compiler makes a path of its own of each.
 fn add_bytes(part: &mut [u8], n: usize, x: u64)
-    requires { ⌜ (n ≤ 8) × (n ≤ length (now part)) ⌝ }
-    ensures { λ _. ⌜ now (part .exit) ≡ renewed n (plus 64 x) (now (part .entry)) ⌝ }
+    requires { ⌜ (n ≤ 8) × (length (now part) ≡ n) ⌝ }
+    ensures { λ _. ⌜ now (part .exit) ≡ bytesOf n (plus 64 x (number (now (part .entry)))) ⌝ }
 {
     match n {
         1 => add(part, 1, x),
@@ -60,8 +60,8 @@ fn add_bytes(part: &mut [u8], n: usize, x: u64)
 
 // Data: n bytes, modulo their width. To subtract is to add what is missing to 2 ^ 64.
 fn write_bytes(part: &mut [u8], n: usize, way: u32, x: u64)
-    requires { ⌜ (n ≤ 8) × (way ≤ 2) × (n ≤ length (now part)) ⌝ }
-    ensures { λ _. ⌜ now (part .exit) ≡ renewed n (combined (wayFrom way) n x) (now (part .entry)) ⌝ }
+    requires { ⌜ (n ≤ 8) × (way ≤ 2) × (length (now part) ≡ n) ⌝ }
+    ensures { λ _. ⌜ now (part .exit) ≡ bytesOf n (combined (wayFrom way) n x (number (now (part .entry)))) ⌝ }
 {
     match way {
         0 => bytes_le::put(part, n, x),
@@ -70,13 +70,14 @@ fn write_bytes(part: &mut [u8], n: usize, way: u32, x: u64)
     }
 }
 
-// A word at an offset of the section.
+// A word at an offset of the section: its four bytes are lent on.
 fn word_at(section: &mut [u8], row: Row, kind: u64, offset: u64, x: u64)
     requires { ⌜ (row ≡ columns (semantics kind)) × (offset + 4 ≤ length (now section)) ⌝ }
     ensures { λ _. ⌜ now (section .exit) ≡ replaced offset 4 (F.put (partsOf (semantics kind)) x) (now (section .entry)) ⌝ }
 {
     let at = offset as usize;
-    write_word(&mut section[at..], row, kind, x);
+    let end = at + 4;
+    write_word(&mut section[at..end], row, kind, x);
 }
 
 // 22, 23, 25 to 29: push a formula's value.
@@ -148,7 +149,7 @@ fn word(rows: &[[u8; 16]; 101], section: &mut [u8], rela: Record, values: &[u8],
     word_at(section, row, rela.kind, rela.offset, x);
 }
 
-// 1, 2, 47 to 56, 99: bytes of data.
+// 1, 2, 47 to 56, 99: bytes of data. As many as the type writes are lent on.
 fn data(rows: &[[u8; 16]; 101], section: &mut [u8], rela: Record, values: &[u8], setting: Setting)
     requires { ⌜ now rows ≡ lines ⌝ }
     requires { ⌜ rela .symbol ≤ length (now values) / 56 ⌝ }
@@ -159,8 +160,10 @@ fn data(rows: &[[u8; 16]; 101], section: &mut [u8], rela: Record, values: &[u8],
 {
     let x = steps::evaluate(rows, rela, values, setting);
     let row = table::row_of(rows, rela.kind);
+    let n = row.count as usize;
     let at = rela.offset as usize;
-    write_bytes(&mut section[at..], row.count as usize, row.way, x);
+    let end = at + n;
+    write_bytes(&mut section[at..end], n, row.way, x);
 }
 
 // What a judged record writes, by the class of its type, and the stack after it.

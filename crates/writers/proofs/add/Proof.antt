@@ -1,8 +1,6 @@
-use Prim.Native.Nat.{ℕ}
-use mathlib.Core.List.{_++_}
 use mathlib.Core.Path.{ap, _∙_}
-use lib.ListN.{drop}
 use Rattle.meaning.specs.Numbers.{bytesOf, plus}
+use Rattle.writers.proofs.Laws.{read, stored}
 use borrow.Author.Needs.{needs}
 use Rattle.writers.proofs.add.Statement.{statement}
 use Rattle.writers.proofs.add.Tie as tie
@@ -30,8 +28,11 @@ returns c =
     let sum = put .before in
     let got = sum .before .before in
     let b = got .before .before .before in
+    let n = b .args .n in
+    let s = b .args .part .now in
     put .put .ensures
-    ∙ ap (λ (y : ℕ). bytesOf (b .args .n) y ++ drop (b .args .n) (b .args .part .now)) (sum .plus .ensures ∙ ap (plus 64 (b .args .x)) (got .get .ensures .is))
+    ∙ stored n s (b .pre .1) (sum .plus .result)
+    ∙ ap (bytesOf n) (sum .plus .ensures ∙ ap (plus 64 (b .args .x)) (got .get .ensures .is ∙ read n s (b .pre .1)))
 
 pub add-spec : {M : Type 1} → statement M
 add-spec = tie.close (tie.spec get-requires plus-requires put-requires same-length returns)

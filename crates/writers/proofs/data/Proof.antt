@@ -1,7 +1,7 @@
-use Prim.Native.Nat.{ℕ}
+use Prim.Native.Nat.{ℕ, _+_, _≤_}
 use native.Mathlib.Omega.{arith}
-use mathlib.Core.Path.{_≡_, ap, _∙_}
-use lib.ListN.{length-take, length-drop}
+use mathlib.Core.Path.{ap, _∙_}
+use lib.ListN.{length, length-take, length-drop}
 use Rattle.meaning.specs.Table.{semantics}
 use Rattle.meaning.specs.Patch.{replaced, combined}
 use Rattle.table.specs.declared.Row.{Row}
@@ -23,6 +23,18 @@ evaluate-requires c κs = search needs
 row-of-requires : tie.Need-row-of-requires
 row-of-requires c κs = search needs
 
+-- the bytes of the record's type end inside the section
+inside : (c : tie.After-row-of) →
+    let b = c .before .before .before .before in
+    b .args .rela .offset + c .row-of .result .count ≤ length (b .args .section .now)
+inside c = let b = c .before .before .before .before in rw (c .row-of .ensures) (b .pre .1 .1)
+
+cast-n : tie.Need-cast-n
+cast-n c = search needs
+
+add-end : tie.Need-add-end
+add-end c = omega (arith, inside (c .before))
+
 sub-write-bytes : tie.Need-sub-write-bytes
 sub-write-bytes c = search needs
 
@@ -30,19 +42,14 @@ part-write-bytes-start : tie.Need-part-write-bytes-start
 part-write-bytes-start c = search needs
 
 part-write-bytes-end : tie.Need-part-write-bytes-end
-part-write-bytes-end c = search needs
-
-cast-write-bytes : tie.Need-cast-write-bytes
-cast-write-bytes c = search needs
+part-write-bytes-end c = omega (arith, inside (c .before))
 
 write-bytes-requires : tie.Need-write-bytes-requires
 write-bytes-requires c κs =
     let row = c .before .before in
     let b = row .before .before .before .before in
     let is = row .row-of .ensures in
-    let count : row .row-of .result .count ≡ columns (semantics (b .args .rela .kind)) .count = ap (λ (p : Row). p .count) is in
-    let fits = b .pre .1 .1 in
-    (count-fits (row .row-of .result) (b .args .rela .kind) is, way-fits (row .row-of .result) (b .args .rela .kind) is, simp (length-take, length-drop) (omega arith))
+    (count-fits (row .row-of .result) (b .args .rela .kind) is, way-fits (row .row-of .result) (b .args .rela .kind) is, simp (length-take, length-drop) (omega (arith, inside row)))
 
 same-length : tie.Need-same-length
 same-length c = search needs
@@ -67,10 +74,11 @@ data-spec =
     (tie.spec
     evaluate-requires
     row-of-requires
+    cast-n
+    add-end
     sub-write-bytes
     part-write-bytes-start
     part-write-bytes-end
-    cast-write-bytes
     write-bytes-requires
     same-length
     returns)

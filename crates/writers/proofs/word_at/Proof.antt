@@ -9,6 +9,9 @@ use Rattle.writers.proofs.word_at.Reads as reads
 use Rattle.writers.proofs.word_at.Lts as lts
 use Rattle.writers.proofs.write_word.Reads as write-word-reads
 
+add-end : tie.Need-add-end
+add-end c = search needs
+
 sub-write-word : tie.Need-sub-write-word
 sub-write-word c = search needs
 
@@ -34,6 +37,7 @@ pub word-at-spec : {M : Type 1} → statement M
 word-at-spec =
     tie.close
     (tie.spec
+    add-end
     sub-write-word
     part-write-word-start
     part-write-word-end

@@ -1,5 +1,6 @@
-use mathlib.Core.Path.{_≡_}
-use Rattle.writers.proofs.Laws.{added, subtracted, two}
+use mathlib.Core.Path.{_≡_, _∙_}
+use Rattle.meaning.specs.Numbers.{number}
+use Rattle.writers.proofs.Laws.{stored, added, subtracted, two}
 use borrow.Author.Needs.{needs}
 use Rattle.writers.proofs.write_bytes.Statement.{statement}
 use Rattle.writers.proofs.write_bytes.Tie as tie
@@ -25,7 +26,11 @@ same-length : tie.Need-same-length
 same-length c = search needs
 
 returns : tie.Need-returns
-returns c = rw (c .before .before .before .before .match .keys1) (c .before .before .put .ensures)
+returns c =
+    let call = c .before .before in
+    let m = call .before .before in
+    let b = m .before .before in
+    rw (m .match .keys1) (call .put .ensures ∙ stored (b .args .n) (b .args .part .now) (b .pre .2) (b .args .x))
 
 same-length-2 : tie.Need-same-length-2
 same-length-2 c = search needs
@@ -35,7 +40,7 @@ returns-2 c =
     let call = c .before .before in
     let m = call .before .before in
     let b = m .before .before in
-    rw (m .match .keys2) (added (b .args .n) (b .args .x) (b .args .part .now) _ (b .pre .0) (call .add-bytes .ensures))
+    rw (m .match .keys2) (added (b .args .n) (b .args .x) (number (b .args .part .now)) _ (b .pre .0) (call .add-bytes .ensures))
 
 same-length-3 : tie.Need-same-length-3
 same-length-3 c = search needs
@@ -49,7 +54,7 @@ returns-3 c =
     let no-0 : b .args .way ≡ 0 → ⊥ = m .match .rest .0 .1 in
     let no-1 : b .args .way ≡ 1 → ⊥ = m .match .rest .1 in
     let way : b .args .way ≡ 2 = two (b .args .way) (b .pre .1) no-0 no-1 in
-    rw way (subtracted (b .args .n) (b .args .x) (b .args .part .now) _ (b .pre .0) (less .minus .result) (less .minus .ensures) (call .add-bytes2 .ensures))
+    rw way (subtracted (b .args .n) (b .args .x) (number (b .args .part .now)) _ (b .pre .0) (less .minus .result) (less .minus .ensures) (call .add-bytes2 .ensures))
 
 pub write-bytes-spec : {M : Type 1} → statement M
 write-bytes-spec =

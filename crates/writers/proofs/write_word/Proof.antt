@@ -29,7 +29,7 @@ returns c =
     let first = test .before .before in
     let got = first .before in
     let b = got .before .before .before in
-    one-part (b .args .row) (b .args .kind) (b .pre .0) (b .args .x) (got .get-u32 .result) (first .insert .result) (b .args .part .now) _
+    one-part (b .args .row) (b .args .kind) (b .pre .0) (b .args .x) (got .get-u32 .result) (first .insert .result) (b .args .part .now) _ (b .pre .1)
     (got .get-u32 .ensures .is) (first .insert .ensures .0) (test .if1 .taken) (put .put .ensures)
 
 insert-requires-2 : tie.Need-insert-requires-2
@@ -51,7 +51,7 @@ returns-2 c =
     let first = second .before .before .before in
     let got = first .before in
     let b = got .before .before .before in
-    two-parts (b .args .row) (b .args .kind) (b .pre .0) (b .args .x) (got .get-u32 .result) (first .insert .result) (b .args .part .now) _
+    two-parts (b .args .row) (b .args .kind) (b .pre .0) (b .args .x) (got .get-u32 .result) (first .insert .result) (b .args .part .now) _ (b .pre .1)
     (got .get-u32 .ensures .is) (first .insert .ensures .0) (second .insert2 .result) (second .insert2 .ensures .0) (put .put2 .ensures)
 
 pub write-word-spec : {M : Type 1} → statement M
