@@ -1,8 +1,9 @@
 -- The call: its three lists of checks one after the other, and what each outcome makes of the answer and of the section.
 use Prim.Native.Nat.{ℕ, _≤_}
 use native.Mathlib.Omega.{arith}
+use mathlib.Core.Bool.{true, false, false≢true}
 use mathlib.Core.List.{List, [], _++_}
-use mathlib.Core.Path.{_≡_, refl, sym, ap, _∙_, subst}
+use mathlib.Core.Path.{_≡_, refl, sym, ap, _∙_}
 use borrow.Author.Tests.{ltb-false, eq-eqb, ne-eqb}
 use lib.ListN.{length}
 use Rattle.meaning.specs.Numbers.{pieces}
@@ -13,19 +14,25 @@ use Rattle.meaning.specs.Patch.{setting, answerOf, patched, sectionOf}
 use Rattle.lemmas.specs.First.{Every, Passes, Numbered, first-append, first-passed, first-stops, masks-numbered, zero-passes}
 use Rattle.patch.specs.declared.Answer.{Answer}
 use Rattle.patch.specs.declared.Answer.the-variants.{Patched, Refused}
-use Rattle.patch.specs.Answers.{answerIn, Proper, Answers, Patches, limitChecks}
+use Rattle.patch.specs.Answers.{answerIn, refuses, Proper, Answers, Patches, limitChecks}
 use Rattle.patch.proofs.Laws.{accepted}
 
 -- ---- one list of checks, by what it answered
 
-stopped : (ks : List Check) (r : Answer) (n p : ℕ) → Answers r (first ks (answer 0 0)) → r ≡ Refused n p →
-    (n ≡ 0 → ⊥) × ((rest : C.Answer) → first ks rest ≡ answer n p)
-stopped ks r n p a e =
-    let z : n ≡ 0 → ⊥ = subst Proper e (a .proper) in
-    (z, λ rest. first-stops ks (answer 0 0) rest n p refl z (ap answerIn (sym e) ∙ a .says))
+some : (r : Answer) → Proper r → refuses r ≡ true → answerIn r .number ≡ 0 → ⊥
+some (Patched n) p e = absurd (false≢true e)
+some (Refused n q) p e = p
 
-passes : (ks : List Check) (r : Answer) (m : ℕ) (z : C.Answer) → Every Numbered ks → Answers r (first ks z) → r ≡ Patched m → Every Passes ks
-passes ks r m z k a e = zero-passes ks z k (ap (λ (x : C.Answer). x .number) (sym (a .says) ∙ ap answerIn e))
+none : (r : Answer) → refuses r ≡ false → answerIn r .number ≡ 0
+none (Patched n) e = refl
+none (Refused n q) e = absurd (false≢true (sym e))
+
+stopped : (ks : List Check) (r : Answer) → Answers r (first ks (answer 0 0)) → refuses r ≡ true → (rest : C.Answer) → answerIn r ≡ first ks rest
+stopped ks r a e rest =
+    sym (first-stops ks (answer 0 0) rest (answerIn r .number) (answerIn r .place) refl (some r (a .proper) e) (a .says))
+
+passes : (ks : List Check) (r : Answer) (z : C.Answer) → Every Numbered ks → Answers r (first ks z) → refuses r ≡ false → Every Passes ks
+passes ks r z k a e = zero-passes ks z k (ap (λ (x : C.Answer). x .number) (sym (a .says)) ∙ none r e)
 
 numbered-limits : (s r v : ℕ) → Every Numbered (limitChecks s r v)
 numbered-limits s r v = omega arith
@@ -49,23 +56,19 @@ module _ (s records values : List ℕ) (address gp : ℕ) where
       ∙ ap (first limitsOf) (first-append masksOf (ofRecords (setting s values address gp) 0 [] (recordsOf records)) (accepted records))
 
   -- a refused call leaves the section
-  refused-section : (n p : ℕ) → answerOf (setting s values address gp) records ≡ answer n p → (n ≡ 0 → ⊥) →
-      s ≡ sectionOf (setting s values address gp) records s
-  refused-section n p e z =
-      rw (ne-eqb (answerOf (setting s values address gp) records .number) 0 (λ q. z (sym (ap (λ (x : C.Answer). x .number) e) ∙ q)))
-
-  refused : (n p : ℕ) → (n ≡ 0 → ⊥) → answerOf (setting s values address gp) records ≡ answer n p →
-      Patches s records values address gp (Refused n p) s
-  refused n p z e = record { answers = record { says = sym e; proper = z }; leaves = refused-section n p e z }
+  refused : (r : Answer) → Proper r → refuses r ≡ true → answerIn r ≡ answerOf (setting s values address gp) records →
+      Patches s records values address gp r s
+  refused r p e is =
+      let number : answerOf (setting s values address gp) records .number ≡ 0 → ⊥ = λ q. some r p e (ap (λ (x : C.Answer). x .number) is ∙ q) in
+      record { answers = record { says = is; proper = p }; leaves = rw (ne-eqb (answerOf (setting s values address gp) records .number) 0 number) }
 
   module _ (r : Answer) (limited : Answers r (first limitsOf (answer 0 0))) where
-    pub limits-refuse : (n p : ℕ) → r ≡ Refused n p →
-        Patches s records values address gp (Refused n p) s
-    limits-refuse n p e = let a = stopped limitsOf r n p limited e in refused n p (a .0) (whole ∙ a .1 _)
+    pub limits-refuse : refuses r ≡ true → Patches s records values address gp r s
+    limits-refuse e = refused r (limited .proper) e (stopped limitsOf r limited e _ ∙ sym whole)
 
-    module _ (m : ℕ) (e : r ≡ Patched m) where
+    module _ (e : refuses r ≡ false) where
       limits-pass : Every Passes limitsOf
-      limits-pass = passes limitsOf r m (answer 0 0) (numbered-limits (length s) (length records) (length values)) limited e
+      limits-pass = passes limitsOf r (answer 0 0) (numbered-limits (length s) (length records) (length values)) limited e
 
       pub few-records : length records ≤ 49152
       few-records = ltb-false 49152 (length records) (limits-pass .1 .0)
@@ -74,32 +77,28 @@ module _ (s records values : List ℕ) (address gp : ℕ) where
       few-values = ltb-false 57344 (length values) (limits-pass .1 .1 .0)
 
       module _ (q : Answer) (masked : Answers q (first masksOf (answer 0 0))) where
-        pub masks-refuse : (n p : ℕ) → q ≡ Refused n p →
-            Patches s records values address gp (Refused n p) s
-        masks-refuse n p f =
-            let a = stopped masksOf q n p masked f in
-            refused n p (a .0) (whole ∙ first-passed limitsOf _ limits-pass ∙ a .1 _)
+        pub masks-refuse : refuses q ≡ true → Patches s records values address gp q s
+        masks-refuse f = refused q (masked .proper) f (stopped masksOf q masked f _ ∙ sym (whole ∙ first-passed limitsOf _ limits-pass))
 
-        module _ (k : ℕ) (f : q ≡ Patched k) where
-          answer-is : answerOf (setting s values address gp) records ≡ recordsAnswer
+        module _ (f : refuses q ≡ false) (j : Answer) (judged : Answers j recordsAnswer) where
+          answer-is : answerIn j ≡ answerOf (setting s values address gp) records
           answer-is =
-              whole
+              judged .says
+              ∙ sym (whole
               ∙ first-passed limitsOf _ limits-pass
-              ∙ first-passed masksOf _ (passes masksOf q k (answer 0 0) (masks-numbered 0 (pieces 56 values)) masked f)
+              ∙ first-passed masksOf _ (passes masksOf q (answer 0 0) (masks-numbered 0 (pieces 56 values)) masked f))
 
-          pub records-refuse : (j : Answer) → Answers j recordsAnswer → (n p : ℕ) → j ≡ Refused n p →
-              Patches s records values address gp (Refused n p) s
-          records-refuse j judged n p g =
-              refused n p (subst Proper g (judged .proper)) (answer-is ∙ sym (judged .says) ∙ ap answerIn g)
+          pub records-refuse : refuses j ≡ true → Patches s records values address gp j s
+          records-refuse g = refused j (judged .proper) g answer-is
 
-          pub judged-zero : (j : Answer) → Answers j recordsAnswer → (i : ℕ) → j ≡ Patched i → recordsAnswer .number ≡ 0
-          judged-zero j judged i g = ap (λ (x : C.Answer). x .number) (sym (judged .says) ∙ ap answerIn g)
+          pub judged-zero : refuses j ≡ false → recordsAnswer .number ≡ 0
+          judged-zero g = ap (λ (x : C.Answer). x .number) (sym (judged .says)) ∙ none j g
 
-          pub records-accepted : recordsAnswer .number ≡ 0 → (w : Answer) → Answers w recordsAnswer → (t : List ℕ) →
-              t ≡ patched (setting s values address gp) [] s (recordsOf records) →
-              Patches s records values address gp w t
-          records-accepted z w written t g =
+          pub records-accepted : refuses j ≡ false → (t : List ℕ) → t ≡ patched (setting s values address gp) [] s (recordsOf records) →
+              Patches s records values address gp j t
+          records-accepted g t e =
               record {
-                answers = record { says = written .says ∙ sym answer-is; proper = written .proper };
-                leaves = rw (eq-eqb (answerOf (setting s values address gp) records .number) 0 (ap (λ (x : C.Answer). x .number) answer-is ∙ z)) g;
+                answers = record { says = answer-is; proper = judged .proper };
+                leaves = rw (eq-eqb (answerOf (setting s values address gp) records .number) 0
+                    (ap (λ (x : C.Answer). x .number) (sym answer-is) ∙ none j g)) e;
               }

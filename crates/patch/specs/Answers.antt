@@ -1,6 +1,6 @@
 -- The answers of the code by document 01's numbers, and what a call comes to.
 use Prim.Native.Nat.{ℕ, _%_}
-use mathlib.Core.Bool.{not}
+use mathlib.Core.Bool.{Bool, true, false, not}
 use mathlib.Core.List.{List, [], _∷_}
 use mathlib.Core.Path.{_≡_}
 use lib.Dec.{eqb, ltb}
@@ -14,6 +14,11 @@ use Rattle.patch.specs.declared.Answer.the-variants.{Patched, Refused}
 abbrev pub answerIn : Answer → C.Answer
 answerIn (Patched n) = answer 0 n
 answerIn (Refused n p) = answer n p
+
+-- Whether an answer refuses.
+abbrev pub refuses : Answer → Bool
+refuses (Patched n) = false
+refuses (Refused n p) = true
 
 -- A refusal has a number.
 abbrev pub Proper : Answer → Type 0

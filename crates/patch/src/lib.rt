@@ -13,7 +13,7 @@ ghost use Rattle.meaning.specs.Patch.{patched};
 ghost use Rattle.lemmas.specs.Pieces.{piece};
 ghost use Rattle.table.specs.Columns.{lines};
 ghost use Rattle.steps.specs.Step.{asRecord, given};
-ghost use Rattle.patch.specs.Answers.{Answers, Patches, limitChecks};
+ghost use Rattle.patch.specs.Answers.{refuses, Answers, Patches, limitChecks};
 
 // A record is 24 bytes, a value row 56.
 const RECORD: usize = 24;
@@ -24,6 +24,17 @@ const ROW: usize = 56;
 pub enum Answer {
     Patched(u32),
     Refused(u32, u32),
+}
+
+impl Answer {
+    fn refuses(self) -> bool
+        ensures { λ r. ⌜ r ≡ refuses self ⌝ }
+    {
+        match self {
+            Answer::Patched(_) => false,
+            Answer::Refused(_, _) => true,
+        }
+    }
 }
 
 // Refusals 1 and 2: the limits and the whole pieces of the three buffers, given by their lengths.
@@ -132,12 +143,12 @@ pub fn patch(section: &mut [u8], records: &[u8], values: &[u8], address: u64, gp
     ensures { λ r. ⌜ Patches (now (section .entry)) (now (records .entry)) (now (values .entry)) address gp r (now (section .exit)) ⌝ }
 {
     let limited = limits(section.len(), records.len(), values.len());
-    if let Answer::Refused(number, place) = limited {
-        return Answer::Refused(number, place);
+    if limited.refuses() {
+        return limited;
     }
     let masked = masks(values);
-    if let Answer::Refused(number, place) = masked {
-        return Answer::Refused(number, place);
+    if masked.refuses() {
+        return masked;
     }
     let rows = table::rows();
     let setting = Setting {
@@ -146,8 +157,8 @@ pub fn patch(section: &mut [u8], records: &[u8], values: &[u8], address: u64, gp
         gp,
     };
     let judged = judge(&rows, records, values, setting);
-    if let Answer::Refused(number, place) = judged {
-        return Answer::Refused(number, place);
+    if judged.refuses() {
+        return judged;
     }
     write_all(&rows, section, records, values, setting);
     judged
