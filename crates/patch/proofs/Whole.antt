@@ -10,7 +10,7 @@ use Rattle.meaning.specs.Numbers.{pieces}
 use Rattle.meaning.specs.Call.{recordsOf}
 use Rattle.meaning.specs.Checks as C
 use Rattle.meaning.specs.Checks.{Check, answer, first, ofMasks, ofRecords, checks}
-use Rattle.meaning.specs.Patch.{setting, answerOf, patched, sectionOf}
+use Rattle.meaning.specs.Patch.{setting, answerOf, patched}
 use Rattle.lemmas.specs.First.{Every, Passes, Numbered, first-append, first-passed, first-stops, masks-numbered, zero-passes}
 use Rattle.patch.specs.declared.Answer.{Answer}
 use Rattle.patch.specs.declared.Answer.the-variants.{Patched, Refused}

@@ -1,7 +1,7 @@
 -- What a step answers, by the kind of the type: how the tests that the code makes come to the record's refusal and the stack after it.
 use Prim.Native.Nat.{ℕ, _/_, _^_, _≤_, _<_}
 use native.Mathlib.Omega.{arith}
-use mathlib.Core.Bool.{Bool, true, false, cond}
+use mathlib.Core.Bool.{Bool, true, false, cond, _||_, false≢true}
 use mathlib.Core.List.{List, _∷_}
 use mathlib.Core.Option.{some}
 use mathlib.Core.Path.{_≡_, refl, sym, ap, _∙_, subst⁻¹}
@@ -21,7 +21,7 @@ use Rattle.stack.specs.declared.Stack.{Stack}
 use Rattle.stack.specs.Tops.{tops, Puts, Operates, operationStack, operationRefusal}
 use Rattle.stack.specs.Laws.{length-tops, Took}
 use Rattle.steps.specs.declared.Done.{Done}
-use Rattle.steps.specs.Refusal.{refusalOf, rangeRefusal, valueRefusal, low-symbol, refusal-unnamed, refusal-idle, refusal-loaders, refusal-push, refusal-operation, refusal-word-stack, refusal-word-of, refusal-bytes}
+use Rattle.steps.specs.Refusal.{refusalOf, rangeRefusal, valueRefusal, placeRefusal, low-symbol, refusal-unnamed, refusal-idle, refusal-loaders, refusal-push, refusal-operation, refusal-word-stack, refusal-word-of, refusal-bytes}
 use Rattle.steps.specs.Step.{given, Steps}
 
 -- ---- what was looked up
@@ -40,6 +40,17 @@ value-goes false false n e z = (refl, λ rest. refl)
 pub value-low : (c : M.Setting) (r : M.Record) (f : Formula) (n : ℕ) → n ≡ valueRefusal c r f → n ≡ 0 → r .symbol ≤ length (c .values) / 56
 value-low c r f n e z =
     low-symbol (c .values) (r .symbol) (value-goes (past c r (some (M.valueOf (M.sumOf f)))) (absent c r (some (M.valueOf (M.sumOf f)))) n e z .0)
+
+-- a word's place that is refused, and one that is not
+place-stops : (p a : Bool) (n : ℕ) → p || a ≡ true → n ≡ cond p 8 (cond a 9 0) → (n ≡ 0 → ⊥) × ((rest : ℕ) → cond p 8 (cond a 9 rest) ≡ n)
+place-stops true a n m e = (omega arith, λ rest. sym e)
+place-stops false true n m e = (omega arith, λ rest. sym e)
+place-stops false false n m e = absurd (false≢true m)
+
+place-goes : (p a : Bool) → p || a ≡ false → (rest : ℕ) → cond p 8 (cond a 9 rest) ≡ rest
+place-goes true a m rest = absurd (false≢true (sym m))
+place-goes false true m rest = absurd (false≢true (sym m))
+place-goes false false m rest = refl
 
 -- a test by its outcome
 yes : (b : Bool) (n : ℕ) → b ≡ true → (rest : ℕ) → cond b n rest ≡ n
@@ -142,18 +153,18 @@ module _ (size : ℕ) (values : List ℕ) (address gp : ℕ) (r : M.Record) (s :
           (cond (unaligned (PC c r)) 9 (rangeRefusal range (signed 64 (formula c r f))))
       word-refusal = refusal-word-of c r (tops s h) shallow f parts range ∙ found _
 
-      pub outside-word : outside size (r .offset) 4 ≡ true → {done : Done} {kept : Stack} → (done .refusal ≡ 8) × (done .stack ≡ kept) →
-          kept .height ≤ 16 → Steps c r (word (of f) parts range) (tops s h) s done
-      outside-word o is l = stops (word (of f) parts range) 8 is l (omega arith) (word-refusal ∙ yes _ 8 o _)
+      pub misplaced-word : (m : ℕ) → outside size (r .offset) 4 || unaligned (PC c r) ≡ true → m ≡ placeRefusal size (r .offset) (PC c r) →
+          {done : Done} {kept : Stack} → (done .refusal ≡ m) × (done .stack ≡ kept) → kept .height ≤ 16 →
+          Steps c r (word (of f) parts range) (tops s h) s done
+      misplaced-word m o p is l =
+          let place = place-stops (outside size (r .offset) 4) (unaligned (PC c r)) m o p in
+          stops (word (of f) parts range) m is l (place .0) (word-refusal ∙ place .1 _)
 
-      pub unaligned-word : outside size (r .offset) 4 ≡ false → unaligned (PC c r) ≡ true → {done : Done} {kept : Stack} →
-          (done .refusal ≡ 9) × (done .stack ≡ kept) → kept .height ≤ 16 → Steps c r (word (of f) parts range) (tops s h) s done
-      unaligned-word o u is l = stops (word (of f) parts range) 9 is l (omega arith) (word-refusal ∙ no _ 8 o _ ∙ yes _ 9 u _)
-
-      pub goes-word : outside size (r .offset) 4 ≡ false → unaligned (PC c r) ≡ false → {done : Done} →
+      pub goes-word : outside size (r .offset) 4 || unaligned (PC c r) ≡ false → {done : Done} →
           done .refusal ≡ rangeRefusal range (signed 64 (formula c r f)) → done .stack .height ≡ h →
           Steps c r (word (of f) parts range) (tops s h) s done
-      goes-word o u p k = stays (word (of f) parts range) refl (p ∙ sym (word-refusal ∙ no _ 8 o _ ∙ no _ 9 u _)) k
+      goes-word o p k =
+          stays (word (of f) parts range) refl (p ∙ sym (word-refusal ∙ place-goes (outside size (r .offset) 4) (unaligned (PC c r)) o _)) k
 
   -- ---- an operation
 
@@ -178,30 +189,31 @@ module _ (size : ℕ) (values : List ℕ) (address gp : ℕ) (r : M.Record) (s :
         (rangeRefusal range (entry (tops s h) 0))))
     stack-refusal = refusal-word-stack c r (tops s h) shallow parts range
 
-    pub outside-stack : outside size (r .offset) 4 ≡ true → {done : Done} {kept : Stack} → (done .refusal ≡ 8) × (done .stack ≡ kept) →
-        kept .height ≤ 16 → Steps c r (word stack parts range) (tops s h) s done
-    outside-stack o is l = stops (word stack parts range) 8 is l (omega arith) (stack-refusal ∙ yes _ 8 o _)
+    pub misplaced-stack : (m : ℕ) → outside size (r .offset) 4 || unaligned (PC c r) ≡ true → m ≡ placeRefusal size (r .offset) (PC c r) →
+        {done : Done} {kept : Stack} → (done .refusal ≡ m) × (done .stack ≡ kept) → kept .height ≤ 16 →
+        Steps c r (word stack parts range) (tops s h) s done
+    misplaced-stack m o p is l =
+        let place = place-stops (outside size (r .offset) 4) (unaligned (PC c r)) m o p in
+        stops (word stack parts range) m is l (place .0) (stack-refusal ∙ place .1 _)
 
-    module _ (o : outside size (r .offset) 4 ≡ false) where
-      pub unaligned-stack : unaligned (PC c r) ≡ true → {done : Done} {kept : Stack} → (done .refusal ≡ 9) × (done .stack ≡ kept) →
-          kept .height ≤ 16 → Steps c r (word stack parts range) (tops s h) s done
-      unaligned-stack u is l = stops (word stack parts range) 9 is l (omega arith) (stack-refusal ∙ no _ 8 o _ ∙ yes _ 9 u _)
+    module _ (o : outside size (r .offset) 4 || unaligned (PC c r) ≡ false) where
+      placed : (rest : ℕ) → cond (outside size (r .offset) 4) 8 (cond (unaligned (PC c r)) 9 rest) ≡ rest
+      placed = place-goes (outside size (r .offset) 4) (unaligned (PC c r)) o
 
-      pub empty-stack : unaligned (PC c r) ≡ false → h ≡ 0 → {done : Done} {kept : Stack} → (done .refusal ≡ 10) × (done .stack ≡ kept) →
+      pub empty-stack : h ≡ 0 → {done : Done} {kept : Stack} → (done .refusal ≡ 10) × (done .stack ≡ kept) →
           kept .height ≤ 16 → Steps c r (word stack parts range) (tops s h) s done
-      empty-stack u z is l =
+      empty-stack z is l =
           let none : ltb (length (tops s h)) 1 ≡ true = lt-ltb (length (tops s h)) 1 (rw length-tops (omega arith)) in
-          stops (word stack parts range) 10 is l (omega arith) (stack-refusal ∙ no _ 8 o _ ∙ no _ 9 u _ ∙ yes _ 10 none _)
+          stops (word stack parts range) 10 is l (omega arith) (stack-refusal ∙ placed _ ∙ yes _ 10 none _)
 
-      pub goes-stack : unaligned (PC c r) ≡ false → (z : ℤ) (below : Stack) → Took s h z below → (x : ℕ) → x ≡ bitsOf 64 z → mag z < 2 ^ 63 → {done : Done} →
+      pub goes-stack : (z : ℤ) (below : Stack) → Took s h z below → (x : ℕ) → x ≡ bitsOf 64 z → mag z < 2 ^ 63 → {done : Done} →
           done .refusal ≡ rangeRefusal range (signed 64 x) → done .stack ≡ below → Steps c r (word stack parts range) (tops s h) s done
-      goes-stack u z below took x k m p b =
+      goes-stack z below took x k m p b =
           let back : signed 64 x ≡ z = ap (signed 64) k ∙ signed-bits z (record { sfits = m }) in
           let one : ltb (length (tops s h)) 1 ≡ false = le-ltb (length (tops s h)) 1 (rw length-tops (omega (arith, took .1))) in
           let top : entry (tops s h) 0 ≡ z = rw (took .0) in
           record {
-            refusal = p ∙ sym (stack-refusal ∙ no _ 8 o _ ∙ no _ 9 u _ ∙ no _ 10 one _
-                ∙ ap (rangeRefusal range) (top ∙ sym back));
+            refusal = p ∙ sym (stack-refusal ∙ placed _ ∙ no _ 10 one _ ∙ ap (rangeRefusal range) (top ∙ sym back));
             stack = λ q. ap (λ (y : Stack). tops s (y .height)) b ∙ sym (rw (took .0));
             height = rw b (omega (arith, took .1));
             size = long;

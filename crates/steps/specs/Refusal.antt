@@ -27,6 +27,10 @@ refusalOf c r does st = first (ofRecord c 0 r does st) (answer 0 0) .number
 abbrev pub valueRefusal : Setting → Record → Formula → ℕ
 valueRefusal c r f = cond (past c r (some (valueOf (sumOf f)))) 6 (cond (absent c r (some (valueOf (sumOf f)))) 7 0)
 
+-- Refusals 8 and 9 of a word's place.
+abbrev pub placeRefusal : ℕ → ℕ → ℕ → ℕ
+placeRefusal size offset pc = cond (outside size offset 4) 8 (cond (unaligned pc) 9 0)
+
 -- Refusals 14 and 15 of a value.
 abbrev pub rangeRefusal : Accepted → ℤ → ℕ
 rangeRefusal range z = cond (beyond range z) 14 (cond (notMultiple range z) 15 0)

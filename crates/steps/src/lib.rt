@@ -5,18 +5,19 @@ use stack::Stack;
 use stack::Taken;
 use table::Row;
 ghost use mathlib.Core.Path.{_≡_};
-ghost use mathlib.Core.Bool.{cond};
+ghost use mathlib.Core.Bool.{cond, _||_};
 ghost use mathlib.Core.List.{List};
 ghost use Prim.Native.Nat.{ℕ, _/_, _≤_, _<_};
 ghost use lib.IntN.{ℤ};
 ghost use lib.ListN.{length};
 ghost use Rattle.meaning.specs.Table.{semantics};
-ghost use Rattle.meaning.specs.Numbers.{signed};
+ghost use Rattle.meaning.specs.Numbers.{plus, signed};
 ghost use Rattle.meaning.specs.Call as M;
+ghost use Rattle.meaning.specs.Checks.{outside, unaligned};
 ghost use Rattle.stack.specs.Tops.{tops, operationOf, Operates};
 ghost use Rattle.table.specs.Words.{beyondSigned, beyondUnsigned, no4};
 ghost use Rattle.table.specs.Columns.{columns, lines, rangeOf, formulaOf};
-ghost use Rattle.steps.specs.Refusal.{rangeRefusal, valueRefusal};
+ghost use Rattle.steps.specs.Refusal.{rangeRefusal, valueRefusal, placeRefusal};
 ghost use Rattle.steps.specs.Step.{asRecord, given, At, Steps};
 
 // A record is 24 bytes: offset (u64), info (u64), addend (i64). Type is the low 32 bits of info, symbol index the high 32.
@@ -76,7 +77,14 @@ fn beyond_unsigned(n: u32, x: u64) -> u32
     }
 }
 
-// In range, and no multiple of 4: 15.
+// 15 where the value is no multiple of 4.
+fn no_multiple(x: u64) -> u32
+    ensures { λ r. ⌜ r ≡ cond (no4 (signed 64 x)) 15 0 ⌝ }
+{
+    if numbers::multiple_of_4(x) { 0 } else { 15 }
+}
+
+// The range first, then the multiple.
 fn beyond_multiple(n: u32, x: u64) -> u32
     requires { ⌜ (1 ≤ n) × (n < 63) ⌝ }
     ensures { λ r. ⌜ r ≡ cond (beyondSigned n (signed 64 x)) 14 (cond (no4 (signed 64 x)) 15 0) ⌝ }
@@ -85,7 +93,7 @@ fn beyond_multiple(n: u32, x: u64) -> u32
     if refusal != 0 {
         return refusal;
     }
-    if numbers::multiple_of_4(x) { 0 } else { 15 }
+    no_multiple(x)
 }
 
 // Refusals 14 and 15 of a value, by the range of its type.
@@ -109,6 +117,27 @@ fn value_refusal(rows: &[[u8; 16]; 101], rela: Record, values: &[u8]) -> u32
 {
     let row = table::row_of(rows, rela.kind);
     values::refusal(values, rela.symbol, row.value)
+}
+
+// Whether the place of a word is refused. Its number is worked out only then: handed on and tested it would cost every word.
+fn misplaced(rela: Record, setting: Setting) -> bool
+    ensures { λ r. ⌜ r ≡ (outside (setting .size) (rela .offset) 4 || unaligned (plus 64 (setting .address) (rela .offset))) ⌝ }
+{
+    numbers::outside(setting.size, rela.offset, 4)
+        || numbers::plus(setting.address, rela.offset) % 4 != 0
+}
+
+// Refusal 8 or 9 of the place of a word, or 0.
+fn place_refusal(rela: Record, setting: Setting) -> u32
+    ensures { λ r. ⌜ r ≡ placeRefusal (setting .size) (rela .offset) (plus 64 (setting .address) (rela .offset)) ⌝ }
+{
+    if numbers::outside(setting.size, rela.offset, 4) {
+        return 8;
+    }
+    if numbers::plus(setting.address, rela.offset) % 4 != 0 {
+        return 9;
+    }
+    0
 }
 
 // What the formula of a record's type gives.
@@ -219,11 +248,8 @@ fn stack_word(
     ensures { λ r. ⌜ ((values : List ℕ) → Steps (given (setting .size) values (setting .address) (setting .gp)) (asRecord rela) (semantics (rela .kind))
         (tops (now (entries .entry)) (stack .height)) (now (entries .entry)) r) ⌝ }
 {
-    if numbers::outside(setting.size, rela.offset, 4) {
-        return refused(8, stack);
-    }
-    if numbers::plus(setting.address, rela.offset) % 4 != 0 {
-        return refused(9, stack);
+    if misplaced(rela, setting) {
+        return refused(place_refusal(rela, setting), stack);
     }
     let Taken::Value(z, below) = stack.take(entries) else {
         return refused(Stack::TOO_FEW, stack);
@@ -246,11 +272,8 @@ fn word(rows: &[[u8; 16]; 101], rela: Record, values: &[u8], setting: Setting, s
     if refusal != 0 {
         return refused(refusal, stack);
     }
-    if numbers::outside(setting.size, rela.offset, 4) {
-        return refused(8, stack);
-    }
-    if numbers::plus(setting.address, rela.offset) % 4 != 0 {
-        return refused(9, stack);
+    if misplaced(rela, setting) {
+        return refused(place_refusal(rela, setting), stack);
     }
     let row = table::row_of(rows, rela.kind);
     if row.range == 0 {
