@@ -2,18 +2,18 @@
 #
 #   make                 the archive and the program `patcher` (proved and compiled by the Rattle kit, rt)
 #   make test            the archive against an independent C implementation, the program on the frames of tests/frames, and the lines
-#                        of crates/meaning/proofs/Rows.antt against those that `make rows` prints
+#                        of crates/meaning/proofs/Types.antt against those that `make types` prints
 #   make example         builds and runs host/example.c
-#   make bench           instructions per record, code size and stack, beside plain C
-#   make bench-program   instructions of the program on full buffers, beside plain C that does the same (x86-64 only)
-#   make install         header, archive, program and pkg-config file, under PREFIX (and DESTDIR)
+#   make bench           instructions per record, code size and stack, beside plain C; fails where a mix is above 1.1 times plain C
+#   make bench-program   instructions of the program on full buffers, beside plain C that does the same
+#   make install         header, archive, program (as rofteluvi-patcher) and pkg-config file, under PREFIX (and DESTDIR)
 #   make clean           removes what the C side built; what rt proved and compiled stays (make distclean removes it too)
 #
 #   make test SEED=7 CALLS=500000      another random run, a longer one
 #   make test-plain      bench's plain C against the independent implementation
 #   make test-sanitize   the tests built with -fsanitize=address,undefined
 #   make test-broken     breaks bench's plain C on purpose, many ways: the tests must find each
-#   make rows            a call for every type, and the bytes that the independent implementation leaves, as Rows.antt has them
+#   make types           a call for every type, and the bytes that the independent implementation leaves, as Types.antt has them
 #
 # The archive is made for x86-64. Elsewhere the C side is cross-compiled and run under an emulator; scripts/setup installs what
 # is missing. ARCHIVE=file links another archive.
@@ -48,28 +48,22 @@ RUN     := RT=$(RT) scripts/host-run
 
 TEST_C  := $(wildcard tests/host/*.c)
 TEST_H  := $(wildcard tests/host/*.h) include/rofteluvi.h
-ROWS_C  := tests/rows/rows.c tests/host/reference.c tests/host/draft.c
+TYPES_C := tests/types/types.c tests/host/reference.c tests/host/draft.c
 # plain.c under the archive's names, to be tested in its place
 AS_ARCHIVE := -Dplain_patch=rofteluvi_patch -Dplain_read_back=rofteluvi_read_back
 
-.PHONY: all meaning frames test test-host test-frames rows test-rows test-plain test-sanitize test-broken example bench bench-program install clean distclean compiler FORCE
+.PHONY: all test test-host test-frames types test-types test-plain test-sanitize test-broken example bench bench-program install clean distclean compiler FORCE
 .DELETE_ON_ERROR:
 
 all: $(ARCHIVE) $(PROGRAM)
 
-# rt proves again only what has changed. Under `make -j2` the frames are proved beside the archive's crates, and the archive is tested
-# while the program is proved; no two of these work on one crate at a time.
-meaning:
-	$(RT) check meaning
-
-frames: meaning
-	$(RT) check output
-
-$(LIBRARY): meaning
-	$(RT) check patch back
+# rt proves again only what has changed, up to two crates at a time. Two calls of rt never run beside each other, since both would write to
+# target/. Under `make -j2` the archive is tested while the program is proved.
+$(LIBRARY): FORCE
+	$(RT) check back patch output
 	$(RT) staticlib rofteluvi
 
-$(PROGRAM): frames $(LIBRARY)
+$(PROGRAM): $(LIBRARY)
 	$(RT) check patcher
 
 FORCE:
@@ -89,7 +83,7 @@ $(OUT)/linked-with: FORCE | $(OUT)
 $(OUT)/host_test: $(TEST_C) $(TEST_H) $(ARCHIVE) $(OUT)/linked-with | compiler $(OUT)
 	$(COMPILE) $(TEST_C) $(ARCHIVE) $(LINK) -o $@
 
-test: test-host test-frames test-rows
+test: test-host test-frames test-types
 
 test-host: $(OUT)/host_test
 	$(RUN) $(OUT)/host_test $(SEED) $(CALLS)
@@ -97,16 +91,16 @@ test-host: $(OUT)/host_test
 test-frames: $(PROGRAM)
 	tests/frames/run
 
-$(OUT)/rows: $(ROWS_C) $(TEST_H) $(OUT)/linked-with | compiler $(OUT)
-	$(COMPILE) -Itests/host $(ROWS_C) $(LINK) -o $@
+$(OUT)/types: $(TYPES_C) $(TEST_H) $(OUT)/linked-with | compiler $(OUT)
+	$(COMPILE) -Itests/host $(TYPES_C) $(LINK) -o $@
 
-rows: $(OUT)/rows
-	@$(RUN) $(OUT)/rows
+types: $(OUT)/types
+	@$(RUN) $(OUT)/types
 
 # What stands between the file's two marks must be what is printed.
-test-rows: $(OUT)/rows
-	$(RUN) $(OUT)/rows >$(OUT)/rows.printed
-	sed '1,/^-- ---- from here as/d; /^-- ---- to here/,$$d' crates/meaning/proofs/Rows.antt | diff - $(OUT)/rows.printed
+test-types: $(OUT)/types
+	$(RUN) $(OUT)/types >$(OUT)/types.printed
+	sed '1,/^-- ---- from here as/d; /^-- ---- to here/,$$d' crates/meaning/proofs/Types.antt | diff - $(OUT)/types.printed
 
 $(OUT)/plain_test: $(TEST_C) $(TEST_H) bench/plain.c bench/plain.h $(OUT)/linked-with | compiler $(OUT)
 	$(COMPILE) $(AS_ARCHIVE) $(TEST_C) bench/plain.c $(LINK) -o $@
@@ -136,18 +130,18 @@ example: $(OUT)/example
 $(OUT)/plain.o: bench/plain.c bench/plain.h include/rofteluvi.h $(OUT)/linked-with | compiler $(OUT)
 	$(COMPILE) -c bench/plain.c -o $@
 
-$(OUT)/bench: bench/bench.c bench/plain.h $(OUT)/plain.o $(ARCHIVE) $(OUT)/linked-with | compiler $(OUT)
+$(OUT)/bench: bench/bench.c bench/counted.h bench/plain.h $(OUT)/plain.o $(ARCHIVE) $(OUT)/linked-with | compiler $(OUT)
 	$(COMPILE) bench/bench.c $(OUT)/plain.o $(ARCHIVE) $(LINK) -o $@
 
 bench: test-plain $(OUT)/bench
 	RT=$(RT) bench/run $(OUT)/bench $(ARCHIVE) $(OUT)/plain.o
 
-$(OUT)/frames: bench/frames.c bench/plain.h $(OUT)/plain.o $(ARCHIVE) $(OUT)/linked-with | compiler $(OUT)
+$(OUT)/frames: bench/frames.c bench/counted.h bench/plain.h $(OUT)/plain.o $(ARCHIVE) $(OUT)/linked-with | compiler $(OUT)
 	$(COMPILE) bench/frames.c $(OUT)/plain.o $(ARCHIVE) $(LINK) -o $@
 
 bench-program: $(PROGRAM) $(OUT)/frames
 	PATCHER=$(OUT)/frames tests/frames/run plain
-	bench/program $(PROGRAM) $(OUT)/frames
+	RT=$(RT) bench/program $(PROGRAM) $(OUT)/frames
 
 # ---- Installation ----
 
@@ -161,7 +155,7 @@ install: all
 	    >$(DESTDIR)$(PREFIX)/lib/pkgconfig/rofteluvi.pc
 	chmod 644 $(DESTDIR)$(PREFIX)/lib/pkgconfig/rofteluvi.pc
 	install -d $(DESTDIR)$(PREFIX)/bin
-	install -m 755 $(PROGRAM) $(DESTDIR)$(PREFIX)/bin/patcher
+	install -m 755 $(PROGRAM) $(DESTDIR)$(PREFIX)/bin/rofteluvi-patcher
 
 clean:
 	rm -rf $(OUT)

@@ -5,6 +5,7 @@
        bench stack     prints the bytes of stack that each function touches at most
    Both functions must leave the same section, or it ends with status 1. */
 #define _XOPEN_SOURCE 700
+#include "counted.h"
 #include "plain.h"
 #include "rofteluvi.h"
 
@@ -186,12 +187,7 @@ static patch_function *const function[FUNCTIONS] = {nothing, plain_patch, roftel
 static patch_function *volatile chosen;
 static rofteluvi_answer result;
 
-/* A counter of instructions watches these names. */
-void count_on(void);
-void count_off(void);
 void counted(void);
-__attribute__((noinline)) void count_on(void) { __asm__ volatile("" ::: "memory"); }
-__attribute__((noinline)) void count_off(void) { __asm__ volatile("" ::: "memory"); }
 __attribute__((noinline)) void counted(void) {
     count_on();
     result = chosen(section, sizeof section, records, 24 * record_count, values, 56 * row_count, address, gp);

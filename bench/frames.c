@@ -5,6 +5,7 @@
        frames alone      patches by rofteluvi_patch inside counted, for a counter of instructions
 
    An input that cannot be read, or an output that cannot be written, ends with status 1. */
+#include "counted.h"
 #include "plain.h"
 #include "rofteluvi.h"
 
@@ -129,9 +130,13 @@ static rofteluvi_answer patch_by(patch_function *patch) {
                  number_at(numbers), number_at(numbers + 8));
 }
 
-/* A counter of instructions watches this name. */
 rofteluvi_answer counted(void);
-__attribute__((noinline)) rofteluvi_answer counted(void) { return patch_by(rofteluvi_patch); }
+__attribute__((noinline)) rofteluvi_answer counted(void) {
+    count_on();
+    rofteluvi_answer a = patch_by(rofteluvi_patch);
+    count_off();
+    return a;
+}
 
 /* ---- Writing ---- */
 

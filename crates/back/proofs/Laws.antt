@@ -1,57 +1,52 @@
--- Read back over plain numbers and rows. A row is given by its equation with the type's columns. Assumes nothing.
-use Prim.Native.Nat.{ℕ, zero, suc, _+_, _-_, _*_, _%_, _^_, _≤_, _<_}
+-- Read back over plain numbers. Assumes nothing.
+use Prim.Native.Nat.{ℕ, suc, _+_, _-_, _*_, _%_, _^_, _≤_, _<_}
 use native.Mathlib.Nat.{add-zero, mul-one, lt-of-lt-of-le}
 use native.Mathlib.Omega.{arith}
-use mathlib.Core.Bool.{Bool, true, false, not, _&&_, _||_}
-use mathlib.Core.List.{List, [], _∷_}
-use mathlib.Core.Path.{_≡_, refl, sym, ap, ap₂, _∙_, subst}
-use borrow.Author.Tests.{lt-ltb, le-ltb, ltb-false, leb-true}
+use mathlib.Core.Bool.{Bool, true, false, not, _||_, false≢true}
+use mathlib.Core.List.{List, [], _∷_, map}
+use mathlib.Core.Path.{_≡_, refl, sym, ap, _∙_}
+use borrow.Author.Tests.{lt-ltb, le-ltb, lt-leb, eq-eqb, ne-eqb, not-false}
 use lib.Bits.{bitOr, or-lt, or-shifted}
-use lib.Dec.{T, eqb, leb, eqb→eq}
+use lib.Dec.{T, leb}
 use lib.IntN.{ℤ, pos, negsuc}
-use lib.ListN.{length, getD, take, drop}
+use lib.ListN.{length, take, drop}
 use lib.Pow.{pow-mono, pow-lt, shl-lt, shl-exact}
 use lib.Signed.{mag}
 use mir.Syntax.{w64}
 use mir.Val.{ofZ, toZ}
 use mir.ValLaws.{toZ-pos, toZ-neg, toZ-ofZ}
+use types.Run.{OneOf}
 use Rattle.meaning.specs.Numbers.{number, plus, signed}
-use Rattle.meaning.specs.Table.{Part, Accepted, from_to_, signed-multiple-of-4, any, stack, of, Semantics, unnamed, idle, loaders, push, operation, word, bytes, semantics}
-use Rattle.meaning.specs.Field.{many, at, slice, wide, lowest, bare}
-use Rattle.meaning.specs.Checks.{first, ofWord, outside, unaligned}
-use Rattle.meaning.specs.ReadBack.{fieldValue, valueBack}
-use Rattle.meaning.proofs.Sound.{sound, soundParts, holdsRange, inside, apart, apartFrom, adjoining}
-use Rattle.table.specs.declared.Row.{Row}
-use Rattle.table.specs.Columns as C
-use Rattle.table.specs.Columns.{classOf, partsOf, rangeOf, rangeNumber, second, columns}
-use Rattle.table.specs.Look.{both, sound-at, fits-at}
-use Rattle.table.specs.Words.{bits-fit}
+use Rattle.meaning.specs.Table.{Semantics, table, semantics}
+use Rattle.meaning.specs.Field.{many, slice, wide, bare}
+use Rattle.meaning.specs.Checks.{first, sectionLimit, ofWord, outside}
+use Rattle.meaning.specs.ReadBack.{valueBack}
+use Rattle.lemmas.specs.Look.{every, found}
+use Rattle.table.specs.declared.Part.{Part}
+use Rattle.table.specs.Columns.{partFrom}
+use Rattle.table.specs.Keys.{same-keys, fromUp, in-range, NoKey, someKey, last-arm}
 use Rattle.back.specs.declared.Immediate.the-variants.{Value, Refused}
+use Rattle.back.specs.Fields.{Inside, Bare}
 use Rattle.back.specs.Immediates.{ReadsBack}
 
--- ---- refusal 4: the word types are the classes 5 and 6
+-- ---- refusal 4: the word types
 
-abbrev noWord : Semantics → Bool
-noWord d = not (ofWord d (λ source range. true))
+abbrev isWord : Semantics → Bool
+isWord d = ofWord d (λ source range. true)
 
-a-word : (d : Semantics) → 5 ≤ classOf d → classOf d ≤ 6 → false ≡ noWord d
-a-word unnamed h k = absurd (omega arith)
-a-word idle h k = absurd (omega arith)
-a-word loaders h k = absurd (omega arith)
-a-word (push f) h k = absurd (omega arith)
-a-word (operation o) h k = absurd (omega arith)
-a-word (word source parts range) h k = refl
-a-word (bytes way n f) h k = absurd (omega arith)
+-- One answer at each of n types, from type k on.
+pub from-to : (b : Bool) (k n t : ℕ) → map (λ j. b) (fromUp k n) ≡ map (λ j. not (isWord (semantics j))) (fromUp k n) → k ≤ t → t < k + n →
+    b ≡ not (isWord (semantics t))
+from-to b k n t p l h = same-keys (λ j. not (isWord (semantics j))) b (fromUp k n) t (in-range k n t l h) p
 
-no-word : (d : Semantics) → (5 ≤ classOf d → 6 < classOf d) → true ≡ noWord d
-no-word unnamed h = refl
-no-word idle h = refl
-no-word loaders h = refl
-no-word (push f) h = refl
-no-word (operation o) h = refl
-no-word (word stack parts range) h = let k : 6 < 5 = h (omega arith) in absurd (omega arith)
-no-word (word (of f) parts range) h = let k : 6 < 6 = h (omega arith) in absurd (omega arith)
-no-word (bytes way n f) h = refl
+is-true : (b : Bool) → T b → true ≡ b
+is-true true h = refl
+is-true false h = absurd h
+
+pub above-98 : (t : ℕ) → 98 < t → true ≡ not (isWord (semantics t))
+unfolding every table
+above-98 t h =
+    found (λ d. true ≡ not (isWord d)) (λ k d. leb k 98 || not (isWord d)) table t tt (λ d p. is-true (not (isWord d)) (rw (lt-leb t 98 h) at p)) refl
 
 -- ---- n bits read as signed: half is their top bit, and full is one above them all
 
@@ -73,223 +68,103 @@ module _ (n x : ℕ) (few : n < 63) (h : x < 2 ^ n) where
           let q : full - 1 - x ≡ 2 ^ n - suc x = omega arith in
           ap (toZ w64) p ∙ toZ-neg w64 (full - 1 - x) left-fits ∙ ap negsuc q ∙ sym (rw (le-ltb x (2 ^ (n - 1)) (rw top at k)))
 
--- ---- the bare field: one part above the other
+-- ---- the bare field: one part, or one above the other
 
-module _ (m n high low : ℕ) (a : m + n ≤ 64) (h : high < 2 ^ m) (l : low < 2 ^ n) where
-  exact : high * 2 ^ n % 2 ^ 64 ≡ high * 2 ^ n
-  exact = shl-exact m n 64 h a
+many-is : (p : Part) → Inside p → many (partFrom p) ≡ p .many
+many-is p h = omega arith
 
-  beside : bitOr (high * 2 ^ n % 2 ^ 64) low ≡ high * 2 ^ n + low
-  beside = ap (λ (y : ℕ). bitOr y low) exact ∙ or-shifted high n low l
-
-  beside-lt : bitOr (high * 2 ^ n % 2 ^ 64) low < 2 ^ (m + n)
-  beside-lt = rw exact (or-lt (m + n) (high * 2 ^ n) low (shl-lt m n h) (lt-of-lt-of-le l (pow-mono (omega arith))))
-
-wide-two : (parts : List Part) → length parts ≤ 2 → wide parts ≡ C.first many parts + second many parts
-unfolding wide
-wide-two [] h = refl
-wide-two (p ∷ []) h = refl
-wide-two (p ∷ q ∷ []) h = ap (λ (k : ℕ). many p + k) (add-zero (many q))
-wide-two (p ∷ q ∷ r ∷ ps) h = absurd (omega arith)
-
-bare-two : (parts : List Part) → length parts ≤ 2 → (w : ℕ) → bare parts w ≡
-    slice (C.first at parts) (C.first many parts) w * 2 ^ second many parts + slice (second at parts) (second many parts) w
+pub bare-one : (p : Part) → Inside p → (w : ℕ) → slice (p .at) (p .many) w ≡ bare (partFrom p ∷ []) w
 unfolding bare wide
-bare-two [] h w = omega arith
-bare-two (p ∷ []) h w = omega arith
-bare-two (p ∷ q ∷ []) h w = simp (add-zero, mul-one)
-bare-two (p ∷ q ∷ r ∷ ps) h w = absurd (omega arith)
+bare-one p h w = simp (many-is p h, mul-one, add-zero)
 
--- ---- what a sound type's field is
+pub bare-two : (p q : Part) → Inside p → Inside q → (w : ℕ) {high low : ℕ} → Bare (partFrom p ∷ []) (p .many) w high →
+    Bare (partFrom q ∷ []) (q .many) w low → Bare (partFrom p ∷ partFrom q ∷ []) (p .many + q .many) w (bitOr (high * 2 ^ q .many % 2 ^ 64) low)
+unfolding bare wide
+bare-two p q in-p in-q w {high} {low} h l =
+    let exact = shl-exact (p .many) (q .many) 64 (h .small) (omega arith) in
+    record {
+      is = ap (λ (y : ℕ). bitOr y low) exact ∙ or-shifted high (q .many) low (l .small) ∙ rw (h .is, l .is) (simp (many-is q in-q, mul-one, add-zero));
+      small =
+          rw exact
+          (or-lt (p .many + q .many) (high * 2 ^ q .many) low (shl-lt (p .many) (q .many) (h .small)) (lt-of-lt-of-le (l .small) (pow-mono (omega arith))));
+    }
 
-sound-field : (d : Semantics) → T (sound d) → T (soundParts (partsOf d)) × T (holdsRange (partsOf d) (rangeOf d))
-unfolding sound soundParts holdsRange
-sound-field unnamed h = (tt, tt)
-sound-field idle h = (tt, tt)
-sound-field loaders h = (tt, tt)
-sound-field (push f) h = (tt, tt)
-sound-field (operation o) h = (tt, tt)
-sound-field (word source parts range) h = both (soundParts parts) (holdsRange parts range) h
-sound-field (bytes way n f) h = (tt, tt)
+-- ---- a value by its field
 
--- Two parts that have no word bit in common have no more bits than the word.
-apart-few : (a b : Bool) (m k n l : ℕ) → leb (m + k) l ≡ a → leb (n + l) k ≡ b → T (a || b) → m + k ≤ 32 → n + l ≤ 32 → m + n ≤ 32
-apart-few true b m k n l p q t f g = let h : m + k ≤ l = leb-true (m + k) l p in omega arith
-apart-few false true m k n l p q t f g = let h : n + l ≤ k = leb-true (n + l) k q in omega arith
-apart-few false false m k n l p q t f g = absurd t
+-- the low zeros that a field leaves out: none, or two
+pub no-zeros : {x y : ℕ} → x ≡ y → x ≡ y * 1
+no-zeros {x} {y} e = e ∙ sym (mul-one y)
 
-sound-few : (parts : List Part) → length parts ≤ 2 → T (soundParts parts) →
-    C.first many parts + C.first at parts ≤ 32 → second many parts + second at parts ≤ 32 → C.first many parts + second many parts ≤ 32
-unfolding soundParts apartFrom apart
-sound-few [] h t f g = omega arith
-sound-few (p ∷ []) h t f g = omega arith
-sound-few (p ∷ q ∷ []) h t f g =
-    let a = both (inside p && apartFrom p (q ∷ []) && adjoining p (q ∷ [])) (soundParts (q ∷ [])) t .0 in
-    let b = both (inside p && apartFrom p (q ∷ [])) (adjoining p (q ∷ [])) a .0 in
-    let c = both (apart p q) true (both (inside p) (apartFrom p (q ∷ [])) b .1) .0 in
-    apart-few (leb (many p + at p) (at q)) (leb (many q + at q) (at p)) (many p) (at p) (many q) (at q) refl refl c f g
-sound-few (p ∷ q ∷ r ∷ ps) h t f g = absurd (omega arith)
+pub two-zeros : {x y : ℕ} → x ≡ y → x * 4 ≡ y * 4
+two-zeros e = ap (λ (b : ℕ). b * 4) e
 
--- A value is the bare field, or its signed reading at n bits, or that of the field with two low zeros: by the range's number.
-abbrev fieldBy : ℕ → ℕ → ℕ → ℤ
-fieldBy k n b = getD (pos b ∷ signed n b ∷ pos b ∷ signed n (b * 4) ∷ []) k (pos b)
+abbrev values : ℕ → List ℕ → List ℤ
+values w ks = map (λ t. valueBack (semantics t) w) ks
 
-plain : (k n b : ℕ) → (k ≡ 1 → ⊥) → (k ≡ 3 → ⊥) → fieldBy k n b ≡ pos b
-plain zero n b f g = refl
-plain (suc zero) n b f g = absurd (f refl)
-plain (suc (suc zero)) n b f g = refl
-plain (suc (suc (suc zero))) n b f g = absurd (g refl)
-plain (suc (suc (suc (suc k)))) n b f g = refl
+-- What a field gives at each of an arm's keys is the type's value: n bits of it read as signed and passed on as their bits, or it itself.
+module _ (w t : ℕ) (ks : List ℕ) (key : OneOf ks t) {x y : ℕ} (e : x ≡ y) where
+  at-key : (z : ℤ) → map (λ k. z) ks ≡ values w ks → z ≡ valueBack (semantics t) w
+  at-key z p = same-keys (λ k. valueBack (semantics k) w) z ks t key p
 
--- The low zeros that a range has: none, or two where it has the multiples of 4.
-module _ (w k l h : ℕ) where
-  none-unsigned : T (eqb l 0 && eqb (suc h) (2 ^ w) && eqb k 0) → k ≡ 0
-  none-unsigned t = eqb→eq k 0 (both (eqb l 0 && eqb (suc h) (2 ^ w)) (eqb k 0) t .1)
+  pub signed-arm : (n : ℕ) {z : ℤ} → z ≡ signed n x → mag z < 2 ^ 63 → map (λ k. signed n y) ks ≡ values w ks →
+      toZ w64 (ofZ w64 z) ≡ valueBack (semantics t) w
+  signed-arm n {z} s f p = toZ-ofZ w64 z (record { sfits = f }) ∙ s ∙ ap (signed n) e ∙ at-key (signed n y) p
 
-  none-signed : T (eqb (suc l) (2 ^ (w - 1)) && eqb (suc h) (2 ^ (w - 1)) && eqb k 0 && leb 1 w) → k ≡ 0
-  none-signed t =
-      eqb→eq k 0
-      (both (eqb (suc l) (2 ^ (w - 1)) && eqb (suc h) (2 ^ (w - 1))) (eqb k 0)
-      (both (eqb (suc l) (2 ^ (w - 1)) && eqb (suc h) (2 ^ (w - 1)) && eqb k 0) (leb 1 w) t .0) .1)
+  pub unsigned-arm : x < 2 ^ 63 → map (λ k. pos y) ks ≡ values w ks → toZ w64 x ≡ valueBack (semantics t) w
+  unsigned-arm f p = toZ-pos w64 x f ∙ ap pos e ∙ at-key (pos y) p
 
-two-zeros : (w k n : ℕ) → T (eqb n (w + k) && eqb k 2 && leb 1 w) → (n ≡ w + k) × (k ≡ 2)
-two-zeros w k n t =
-    let a = both (eqb n (w + k)) (eqb k 2) (both (eqb n (w + k) && eqb k 2) (leb 1 w) t .0) in
-    (eqb→eq n (w + k) (a .0), eqb→eq k 2 (a .1))
+-- The keys of the arms, and the word types that are left for the default arm.
+abbrev arms : List (List ℕ)
+arms =
+    (38 ∷ []) ∷ (39 ∷ []) ∷ (40 ∷ []) ∷ (41 ∷ []) ∷ (42 ∷ 64 ∷ []) ∷ (43 ∷ []) ∷ (44 ∷ 65 ∷ []) ∷ (45 ∷ 66 ∷ []) ∷ (46 ∷ []) ∷
+    (68 ∷ 70 ∷ 72 ∷ 74 ∷ 76 ∷ 78 ∷ 80 ∷ 82 ∷ 84 ∷ 86 ∷ 88 ∷ 90 ∷ 92 ∷ 94 ∷ []) ∷ []
 
-no-zeros : (k b : ℕ) → k ≡ 0 → b * 2 ^ k ≡ b
-no-zeros k b e = rw (e, mul-one)
+abbrev pub left : List ℕ
+left = 67 ∷ 69 ∷ 71 ∷ 73 ∷ 75 ∷ 77 ∷ 79 ∷ 81 ∷ 83 ∷ 85 ∷ 87 ∷ 89 ∷ 91 ∷ 93 ∷ 95 ∷ 96 ∷ 97 ∷ 98 ∷ []
 
-field-is : (parts : List Part) (range : Accepted) → T (holdsRange parts range) → (w : ℕ) →
-    fieldBy (rangeNumber range) (wide parts + lowest parts) (bare parts w) ≡ fieldValue parts range w
-unfolding holdsRange
-field-is parts (from pos l to pos h) t w = ap pos (sym (no-zeros (lowest parts) (bare parts w) (none-unsigned (wide parts) (lowest parts) l h t)))
-field-is parts (from pos l to negsuc h) t w = absurd t
-field-is parts (from negsuc l to pos h) t w =
-    ap (signed (wide parts + lowest parts)) (sym (no-zeros (lowest parts) (bare parts w) (none-signed (wide parts) (lowest parts) l h t)))
-field-is parts (from negsuc l to negsuc h) t w = absurd t
-field-is parts (signed-multiple-of-4 n) t w =
-    let a = two-zeros (wide parts) (lowest parts) n t in
-    ap₂ (λ (m k : ℕ). signed m (bare parts w * 2 ^ k)) (sym (a .0)) (sym (a .1))
-field-is parts any t w = refl
-
-multiple-zeros : (parts : List Part) (range : Accepted) → T (holdsRange parts range) → rangeNumber range ≡ 3 → lowest parts ≡ 2
-unfolding holdsRange
-multiple-zeros parts (from pos l to h) t e = absurd (omega arith)
-multiple-zeros parts (from negsuc l to h) t e = absurd (omega arith)
-multiple-zeros parts (signed-multiple-of-4 n) t e = two-zeros (wide parts) (lowest parts) n t .1
-multiple-zeros parts any t e = absurd (omega arith)
-
--- With no field there is nothing to read, which is 0 too.
-value-is : (d : Semantics) (w : ℕ) → fieldValue (partsOf d) (rangeOf d) w ≡ valueBack d w
-unfolding bare
-value-is unnamed w = refl
-value-is idle w = refl
-value-is loaders w = refl
-value-is (push f) w = refl
-value-is (operation o) w = refl
-value-is (word source parts range) w = refl
-value-is (bytes way n f) w = refl
-
--- ---- by a row
-
-module _ (row : Row) (kind : ℕ) (e : row ≡ columns (semantics kind)) where
-  class-is : row .class ≡ classOf (semantics kind)
-  class-is = ap (λ (r : Row). r .class) e
-
-  pub word-class : 5 ≤ row .class → row .class ≤ 6 → false ≡ noWord (semantics kind)
-  word-class h k = a-word (semantics kind) (rw class-is at h) (rw class-is at k)
-
-  pub other-class : (5 ≤ row .class → 6 < row .class) → true ≡ noWord (semantics kind)
-  other-class h = no-word (semantics kind) (rw class-is at h)
-
-  pub first-fits : (row .many ≤ 32) × (row .at < 64)
-  first-fits = rw e (omega (arith, fits-at kind .in-word))
-
-  pub second-fits : (row .many2 ≤ 32) × (row .at2 < 64)
-  second-fits = rw e (omega (arith, fits-at kind .in-word2))
-
-  wide-is : row .many + row .many2 ≡ wide (partsOf (semantics kind))
-  wide-is = rw e (sym (wide-two (partsOf (semantics kind)) (fits-at kind .parts)))
-
-  pub bare-is : (held high low : ℕ) → high ≡ slice (row .at) (row .many) held → high < 2 ^ row .many →
-      low ≡ slice (row .at2) (row .many2) held → low < 2 ^ row .many2 →
-      (bitOr (high * 2 ^ row .many2 % 2 ^ 64) low ≡ bare (partsOf (semantics kind)) held)
-      × (bitOr (high * 2 ^ row .many2 % 2 ^ 64) low < 2 ^ wide (partsOf (semantics kind)))
-  bare-is held high low a b c d =
-      let l : row .many + row .many2 ≤ 64 = omega (arith, first-fits, second-fits) in (
-        beside (row .many) (row .many2) high low l b d ∙ rw (a, c, e) (sym (bare-two (partsOf (semantics kind)) (fits-at kind .parts) held)),
-        rw wide-is at (beside-lt (row .many) (row .many2) high low l b d),
-      )
-
-  -- ---- a field that was read, and its value
-
-  module _ (held b : ℕ) (is : b ≡ bare (partsOf (semantics kind)) held) (l : b < 2 ^ wide (partsOf (semantics kind))) where
-    bits-are : row .bits ≡ wide (partsOf (semantics kind)) + lowest (partsOf (semantics kind))
-    bits-are = ap (λ (r : Row). r .bits) e
-
-    by-row : fieldBy (row .range) (row .bits) b ≡ valueBack (semantics kind) held
-    by-row =
-        rw (e, is) (field-is (partsOf (semantics kind)) (rangeOf (semantics kind)) (sound-field (semantics kind) (sound-at kind) .1) held)
-        ∙ value-is (semantics kind) held
-
-    pub small : b < 2 ^ 32
-    small =
-        let f = fits-at kind in
-        let p : wide (partsOf (semantics kind)) ≤ 32 =
-        subst (λ (n : ℕ). n ≤ 32) (sym (wide-two (partsOf (semantics kind)) (f .parts)))
-        (sound-few (partsOf (semantics kind)) (f .parts) (sound-field (semantics kind) (sound-at kind) .0) (f .in-word) (f .in-word2)) in
-        lt-of-lt-of-le l (pow-mono p)
-
-    pub signed-asks : row .range ≡ 1 → ((1 ≤ row .bits) × (row .bits < 63)) × (b < 2 ^ row .bits)
-    signed-asks h = (bits-fit kind row e (omega arith), rw bits-are (lt-of-lt-of-le l (pow-mono (omega arith))))
-
-    pub multiple-asks : row .range ≡ 3 → ((1 ≤ row .bits) × (row .bits < 63)) × (b * 4 < 2 ^ row .bits)
-    multiple-asks h =
-        let z : lowest (partsOf (semantics kind)) ≡ 2 =
-        multiple-zeros (partsOf (semantics kind)) (rangeOf (semantics kind)) (sound-field (semantics kind) (sound-at kind) .1)
-        (ap (λ (r : Row). r .range) (sym e) ∙ h) in
-        (bits-fit kind row e (omega arith), rw (bits-are, z) (shl-lt (wide (partsOf (semantics kind))) 2 l))
-
-    pub signed-value : row .range ≡ 1 → (z : ℤ) → mag z < 2 ^ 63 → z ≡ signed (row .bits) b → toZ w64 (ofZ w64 z) ≡ valueBack (semantics kind) held
-    signed-value h z f q =
-        toZ-ofZ w64 z (record { sfits = f }) ∙ q ∙ ap (λ (k : ℕ). fieldBy k (row .bits) b) (sym h) ∙ by-row
-
-    pub multiple-value : row .range ≡ 3 → (z : ℤ) → mag z < 2 ^ 63 → z ≡ signed (row .bits) (b * 4) → toZ w64 (ofZ w64 z) ≡ valueBack (semantics kind) held
-    multiple-value h z f q =
-        toZ-ofZ w64 z (record { sfits = f }) ∙ q ∙ ap (λ (k : ℕ). fieldBy k (row .bits) b) (sym h) ∙ by-row
-
-    pub plain-value : (row .range ≡ 1 → ⊥) → (row .range ≡ 3 → ⊥) → toZ w64 b ≡ valueBack (semantics kind) held
-    plain-value f g =
-        let p : b < 2 ^ 63 = omega (arith, small) in
-        toZ-pos w64 b p ∙ sym (plain (row .range) (row .bits) b f g) ∙ by-row
+pub default-arm : (t : ℕ) → isWord (semantics t) ≡ true → NoKey (Unit {0}) arms t → OneOf left t
+unfolding every table
+default-arm t e p =
+    last-arm left arms t
+    (found (λ d. isWord d ≡ true → T (someKey (left ∷ arms) t)) (λ k d. not (isWord d) || someKey (left ∷ arms) k) table t tt (λ d h f. rw f at h)
+    (λ f. absurd (false≢true f)) e) p
 
 -- ---- the call: the first check that fails, or the value
 
-module _ (s : List ℕ) (address offset kind : ℕ) where
-  pub refused-1 : 65536 < length s → ReadsBack s address offset kind (Refused 1)
+-- 1, 4 and 8 passed.
+pub record Passed (s : List ℕ) (offset type : ℕ) : Type 0 where
+  pub short : length s ≤ sectionLimit
+  pub named : not (isWord (semantics type)) ≡ false
+  pub within : outside (length s) offset 4 ≡ false
+
+pub word-type : (s : List ℕ) (offset type : ℕ) → Passed s offset type → isWord (semantics type) ≡ true
+word-type s offset type p = not-false (isWord (semantics type)) (p .named)
+
+module _ (s : List ℕ) (address offset type : ℕ) where
+  pub refused-1 : sectionLimit < length s → ReadsBack s address offset type (Refused 1)
   unfolding first
-  refused-1 h = record { says = simp (lt-ltb 65536 (length s) h); proper = omega arith }
+  refused-1 h = record { says = simp (lt-ltb sectionLimit (length s) h); proper = omega arith }
 
-  module _ (long : length s ≤ 65536) where
-    pub refused-4 : noWord (semantics kind) ≡ true → ReadsBack s address offset kind (Refused 4)
+  pub refused-4 : length s ≤ sectionLimit → not (isWord (semantics type)) ≡ true → ReadsBack s address offset type (Refused 4)
+  unfolding first
+  refused-4 short h = record { says = simp (le-ltb sectionLimit (length s) short, h); proper = omega arith }
+
+  pub refused-8 : length s ≤ sectionLimit → not (isWord (semantics type)) ≡ false → outside (length s) offset 4 ≡ true →
+      ReadsBack s address offset type (Refused 8)
+  unfolding first
+  refused-8 short named h = record { says = simp (le-ltb sectionLimit (length s) short, named, h); proper = omega arith }
+
+  module _ (p : Passed s offset type) {pc : ℕ} (e : pc ≡ plus 64 address offset) where
+    pub refused-9 : (pc % 4 ≡ 0 → ⊥) → ReadsBack s address offset type (Refused 9)
     unfolding first
-    refused-4 h = record { says = simp (le-ltb 65536 (length s) long, h); proper = omega arith }
+    refused-9 h =
+        let f = ne-eqb (plus 64 address offset % 4) 0 (rw e at h) in
+        record { says = simp (le-ltb sectionLimit (length s) (p .short), p .named, p .within, f); proper = omega arith }
 
-    module _ (named : noWord (semantics kind) ≡ false) where
-      pub refused-8 : outside (length s) offset 4 ≡ true → ReadsBack s address offset kind (Refused 8)
-      unfolding first
-      refused-8 h = record { says = simp (le-ltb 65536 (length s) long, named, h); proper = omega arith }
-
-      module _ (within : outside (length s) offset 4 ≡ false) where
-        pub inside-section : offset + 4 ≤ length s
-        inside-section = ltb-false (length s) (offset + 4) within
-
-        pub refused-9 : unaligned (plus 64 address offset) ≡ true → ReadsBack s address offset kind (Refused 9)
-        unfolding first
-        refused-9 h = record { says = simp (le-ltb 65536 (length s) long, named, within, h); proper = omega arith }
-
-        pub value-read : unaligned (plus 64 address offset) ≡ false → (held : ℕ) → held ≡ number (take 4 (drop offset s)) →
-            (z : ℤ) → z ≡ valueBack (semantics kind) held → ReadsBack s address offset kind (Value z)
-        unfolding first
-        value-read h held p z q = record { says = simp (le-ltb 65536 (length s) long, named, within, h, q, p); proper = tt }
+    pub value-read : pc % 4 ≡ 0 → {held : ℕ} → held ≡ number (take 4 (drop offset s)) → {z : ℤ} → mag z < 2 ^ 63 →
+        z ≡ valueBack (semantics type) held → ReadsBack s address offset type (Value (toZ w64 (ofZ w64 z)))
+    unfolding first
+    value-read h {held} is {z} f v =
+        let g = eq-eqb (plus 64 address offset % 4) 0 (rw e at h) in
+        let y = toZ-ofZ w64 z (record { sfits = f }) ∙ v ∙ ap (valueBack (semantics type)) is in
+        record { says = simp (le-ltb sectionLimit (length s) (p .short), p .named, p .within, g, y); proper = tt }

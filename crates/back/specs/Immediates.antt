@@ -1,8 +1,9 @@
--- The code's immediates by document 01's numbers, and what a call comes to.
+-- What a call results in: the code's immediates by document 01's numbers.
 use Prim.Native.Nat.{ℕ}
 use mathlib.Core.List.{List}
 use mathlib.Core.Path.{_≡_}
 use lib.IntN.{pos}
+use Rattle.meaning.specs.Call.{card64}
 use Rattle.meaning.specs.ReadBack as R
 use Rattle.meaning.specs.ReadBack.{readBackOf}
 use Rattle.back.specs.declared.Immediate.{Immediate}
@@ -18,7 +19,7 @@ abbrev pub Proper : Immediate → Type 0
 Proper (Value z) = Unit {0}
 Proper (Refused n) = n ≡ 0 → ⊥
 
--- What a call of read back comes to: the answer by document 01's numbers.
-pub record ReadsBack (section : List ℕ) (address offset type : ℕ) (r : Immediate) : Type 0 where
-  pub says : immediateIn r ≡ readBackOf 64 section address offset type
-  pub proper : Proper r
+-- The result of a call: number, place and value are those that the meaning gives.
+pub record ReadsBack (section : List ℕ) (address offset type : ℕ) (result : Immediate) : Type 0 where
+  pub says : immediateIn result ≡ readBackOf card64 section address offset type
+  pub proper : Proper result

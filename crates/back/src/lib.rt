@@ -1,14 +1,16 @@
 // Read back: the immediate that a word holds, its low zeros restored and its sign as the type's accepted range has it.
-use table::Row;
+use sizes::SECTION_LIMIT;
+use table::*;
 ghost use mathlib.Core.Path.{_≡_};
 ghost use mathlib.Core.Bool.{not, true};
-ghost use Prim.Native.Nat.{_^_, _≤_, _<_};
+ghost use mathlib.Core.List.{[], _∷_};
+ghost use Prim.Native.Nat.{_+_, _^_, _≤_, _<_};
 ghost use Rattle.meaning.specs.Numbers as N;
-ghost use Rattle.meaning.specs.Table.{semantics};
-ghost use Rattle.meaning.specs.Field as F;
+ghost use Rattle.meaning.specs.Call.{card64, semanticsOn};
 ghost use Rattle.meaning.specs.Checks as C;
 ghost use Rattle.meaning.specs.ReadBack.{valueBack};
-ghost use Rattle.table.specs.Columns.{columns, partsOf};
+ghost use Rattle.table.specs.Columns.{partFrom};
+ghost use Rattle.back.specs.Fields.{Inside, Bare};
 ghost use Rattle.back.specs.Immediates.{ReadsBack};
 
 // The immediate that a word holds, or a number of refusal: 1, 4, 8 or 9. Its place is always 0, and on refusal the number given is 0.
@@ -17,23 +19,15 @@ pub enum Immediate {
     Refused(u32),
 }
 
-// Refusal 4: a type that is no word type has no field to read.
-fn no_word(row: Row, kind: u64) -> bool
-    requires { ⌜ row ≡ columns (semantics kind) ⌝ }
-    ensures { λ r. ⌜ r ≡ not (C.ofWord (semantics kind) (λ source range. true)) ⌝ }
+// Refusal 4: read back serves types 38 to 46 and 64 to 98. No other type has a field to read.
+fn no_word(rtype: u64) -> bool
+    ensures { λ r. ⌜ r ≡ not (C.ofWord (semanticsOn card64 rtype) (λ source range. true)) ⌝ }
 {
-    let class = row.class;
-    match class {
-        5 | 6 => false,
+    match rtype {
+        38..=46 => false,
+        64..=98 => false,
         _ => true,
     }
-}
-
-// Refusal 9: the word's address is no multiple of 4.
-fn unaligned(address: u64, offset: u64) -> bool
-    ensures { λ r. ⌜ r ≡ C.unaligned (N.plus 64 address offset) ⌝ }
-{
-    numbers::plus(address, offset) % 4 != 0
 }
 
 fn power(n: u32) -> u64
@@ -55,49 +49,62 @@ fn signed_at(n: u32, x: u64) -> i64
     !((power(n) - 1 - x) as i64)
 }
 
-// The word's parts side by side, the first the highest. A field of one part has a second of no bits.
-fn bare(word: u64, row: Row, kind: u64) -> u64
-    requires { ⌜ row ≡ columns (semantics kind) ⌝ }
-    ensures { λ r. ⌜ (r ≡ F.bare (partsOf (semantics kind)) word) × (r < 2 ^ F.wide (partsOf (semantics kind))) ⌝ }
+// A field of one part, bare: its low zeros and its sign are not restored.
+fn bare(word: u64, part: Part) -> u64
+    requires { ⌜ Inside part ⌝ }
+    ensures { λ r. ⌜ Bare (partFrom part ∷ []) (part .many) word r ⌝ }
 {
-    let high = fields::extract(word, row.many, row.at);
-    let low = fields::extract(word, row.many2, row.at2);
-    high << row.many2 | low
+    fields::extract(word, part.many, part.at)
 }
 
-// The field's value: signed where the accepted range has negative numbers, and times 4 where the field leaves out two low zeros.
-fn value_in(word: u64, row: Row, kind: u64) -> i64
-    requires { ⌜ row ≡ columns (semantics kind) ⌝ }
-    ensures { λ r. ⌜ r ≡ valueBack (semantics kind) word ⌝ }
+// A field of two parts, bare: side by side, the first the highest.
+fn bare_of_two(word: u64, high: Part, low: Part) -> u64
+    requires { ⌜ Inside high × Inside low ⌝ }
+    ensures { λ r. ⌜ Bare (partFrom high ∷ partFrom low ∷ []) (high .many + low .many) word r ⌝ }
 {
-    let held = bare(word, row, kind);
-    let range = row.range;
-    match range {
-        1 => signed_at(row.bits, held),
-        3 => signed_at(row.bits, held * 4),
-        _ => held as i64,
+    bare(word, high) << low.many | bare(word, low)
+}
+
+// A word type's value: signed where the accepted range has negative numbers, and times 4 where the field leaves out two low zeros.
+fn value_in(rtype: u64, word: u64) -> i64
+    requires { ⌜ C.ofWord (semanticsOn card64 rtype) (λ source range. true) ≡ true ⌝ }
+    ensures { λ r. ⌜ r ≡ valueBack (semanticsOn card64 rtype) word ⌝ }
+{
+    match rtype {
+        38 => signed_at(5, bare(word, LOW5)),
+        39 => bare(word, LO12) as i64,
+        40 => signed_at(12, bare(word, LO12)),
+        41 => signed_at(16, bare(word, LOW16)),
+        42 | 64 => signed_at(18, bare(word, MID16) * 4),
+        43 => signed_at(20, bare(word, LOW20)),
+        44 | 65 => signed_at(23, bare_of_two(word, HI5, MID16) * 4),
+        45 | 66 => signed_at(28, bare_of_two(word, HI10, MID16) * 4),
+        46 => bare(word, WORD) as i64,
+        // 67 to 98 give the bare field. LO12 and 64_HI12 have the same bits of the word, and so have HI20 and 64_LO20. Neighbours stand in
+        // different arms: an arm of neighbours becomes a range test.
+        68 | 70 | 72 | 74 | 76 | 78 | 80 | 82 | 84 | 86 | 88 | 90 | 92 | 94 => {
+            bare(word, LO12) as i64
+        }
+        _ => bare(word, HI20) as i64,
     }
 }
 
 // Any section and any numbers get an answer. The checks go in their order: 1, 4, 8, 9.
-pub fn read_back(section: &[u8], address: u64, offset: u64, kind: u64) -> Immediate
-    ensures { λ r. ⌜ ReadsBack (now (section .entry)) address offset kind r ⌝ }
+pub fn read_back(section: &[u8], address: u64, offset: u64, rtype: u64) -> Immediate
+    ensures { λ r. ⌜ ReadsBack (now (section .entry)) address offset rtype r ⌝ }
 {
-    if section.len() > 65536 {
+    if section.len() > SECTION_LIMIT {
         return Immediate::Refused(1);
     }
-    let rows = table::rows();
-    let row = table::row_of(&rows, kind);
-    if no_word(row, kind) {
+    if no_word(rtype) {
         return Immediate::Refused(4);
     }
     if numbers::outside(section.len() as u64, offset, 4) {
         return Immediate::Refused(8);
     }
-    if unaligned(address, offset) {
+    if numbers::plus(address, offset) % 4 != 0 {
         return Immediate::Refused(9);
     }
     let at = offset as usize;
-    let word = bytes_le::get_u32(section, at);
-    Immediate::Value(value_in(word, row, kind))
+    Immediate::Value(value_in(rtype, bytes_le::get_u32(section, at)))
 }

@@ -5,7 +5,7 @@ ghost use mathlib.Core.Path.{_≡_};
 ghost use mathlib.Core.List.{_++_};
 ghost use Prim.Native.Nat.{_+_, _≤_, _<_};
 ghost use lib.ListN.{length, drop};
-ghost use Rattle.meaning.specs.Numbers.{number, bytesOf};
+ghost use Rattle.meaning.specs.Numbers.{bytesOf};
 ghost use Rattle.meaning.specs.Call.{u64};
 ghost use Rattle.bytes_le.specs.Little.{Little};
 

@@ -14,28 +14,28 @@ const PARTS: i64 = 0x123456789abcdef0;
 
 struct Rela {
     offset: u64,
-    kind: u32,
+    rtype: u32,
     symbol: u32,
     addend: i64,
 }
 
-fn record_at(offset: u64, kind: u32, symbol: u32, addend: i64) -> Rela {
+fn record_at(offset: u64, rtype: u32, symbol: u32, addend: i64) -> Rela {
     Rela {
         offset,
-        kind,
+        rtype,
         symbol,
         addend,
     }
 }
 
 // Symbol 0 has the value 0, and PC is 0 at offset 0: S+A and S+A-PC are then the addend.
-fn with(kind: u32, addend: i64) -> Rela {
-    record_at(0, kind, 0, addend)
+fn with(rtype: u32, addend: i64) -> Rela {
+    record_at(0, rtype, 0, addend)
 }
 
 // A type in whose formula no addend stands.
-fn plain(kind: u32) -> Rela {
-    with(kind, 0)
+fn plain(rtype: u32) -> Rela {
+    with(rtype, 0)
 }
 
 fn push(value: i64) -> Rela {
@@ -47,7 +47,7 @@ fn store(bytes: &mut [u8], r: Rela)
     requires { ⌜ length (now bytes) ≡ 24 ⌝ }
 {
     bytes_le::put(bytes, 8, r.offset);
-    bytes_le::put(&mut bytes[8..], 4, r.kind as u64);
+    bytes_le::put(&mut bytes[8..], 4, r.rtype as u64);
     bytes_le::put(&mut bytes[12..], 4, r.symbol as u64);
     bytes_le::put(&mut bytes[16..], 8, numbers::bits(r.addend));
 }
@@ -88,17 +88,17 @@ fn two(edge: &[u8], a: Rela, b: Rela) {
 }
 
 // A value that is pushed, and taken by a type.
-fn taken(edge: &[u8], value: i64, kind: u32) {
-    two(edge, push(value), plain(kind));
+fn taken(edge: &[u8], value: i64, rtype: u32) {
+    two(edge, push(value), plain(rtype));
 }
 
 // An operation on two values. Type 38 takes what it leaves, so that the word shows it.
-fn operation(edge: &[u8], opr1: i64, opr2: i64, kind: u32) {
+fn operation(edge: &[u8], opr1: i64, opr2: i64, rtype: u32) {
     let mut space = [0u8; 96];
     let list: &mut [u8] = &mut space;
     store(&mut list[..24], push(opr1));
     store(&mut list[24..48], push(opr2));
-    store(&mut list[48..72], plain(kind));
+    store(&mut list[48..72], plain(rtype));
     store(&mut list[72..], plain(38));
     run(edge, list);
 }

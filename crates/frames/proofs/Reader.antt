@@ -10,12 +10,13 @@ use borrow.Author.Tests.{lt-ltb, le-ltb, ne-eqb, eqb-true, leb-true, ltb-false}
 use lib.Dec.{eqb, ltb, leb}
 use lib.ListN.{length, take, drop, length-append, length-drop}
 use lib.Seq.{drop-drop, length-take-le, take-all}
-use Rattle.meaning.specs.Checks.{answer, first}
+use Rattle.meaning.specs.Call.{card64, rowBytes}
+use Rattle.meaning.specs.Checks.{answer, first, sectionLimit, valuesLimit}
 use Rattle.meaning.specs.Frames.{linesOf, allDigits, hexadecimal, numeral, kind, body, sized, follows, wellFormed}
 use Rattle.meaning.specs.Frames.{Input, added, ofLine, reading, readingOf}
 use Rattle.frames.specs.declared.Gathered.{Gathered}
 use Rattle.frames.specs.Text.{lineLength, digitsLength, laid}
-use Rattle.frames.specs.Gathered.{inputIn, readingIn, Filled, refusedAs, overIn, own, gatheredWith}
+use Rattle.frames.specs.Gathered.{inputIn, readingIn, Filled, refusedAs, Within, overIn, own, gatheredWith}
 use Rattle.frames.proofs.Laws.{both, first-line, length-body, laid-none, length-laid, take-laid, drop-laid, no-lines, no-digit, no-kind, line-broken}
 
 -- ---- a well-formed frame
@@ -24,21 +25,21 @@ use Rattle.frames.proofs.Laws.{both, first-line, length-body, laid-none
 pub data Sizes (k n : ℕ) : Type 0 where
   one : k ≡ 1 → n ≡ 16 → Sizes k n
   two : k ≡ 2 → 1 ≤ n → n ≤ 64 → Sizes k n
-  three : k ≡ 3 → n ≡ 56 → Sizes k n
-  four : k ≡ 4 → n ≡ 24 → Sizes k n
+  three : k ≡ 3 → n ≡ rowBytes → Sizes k n
+  four : k ≡ 4 → n ≡ card64 .recordBytes → Sizes k n
 
 pub sizes : (k n : ℕ) → sized k n ≡ true → Sizes k n
 unfolding sized
 sizes k n e = go1 (eqb k 1) (eqb k 2) (eqb k 3) (eqb k 4) refl refl refl refl e
   where
     go1 : (a b d f : Bool) → eqb k 1 ≡ a → eqb k 2 ≡ b → eqb k 3 ≡ d → eqb k 4 ≡ f →
-        cond a (eqb n 16) (cond b (leb 1 n && leb n 64) (cond d (eqb n 56) (cond f (eqb n 24) false))) ≡ true → Sizes k n
+        cond a (eqb n 16) (cond b (leb 1 n && leb n 64) (cond d (eqb n rowBytes) (cond f (eqb n (card64 .recordBytes)) false))) ≡ true → Sizes k n
     go1 true b d f p q r s e = one (eqb-true k 1 p) (eqb-true n 16 e)
     go1 false true d f p q r s e =
         let h = both (leb 1 n) (leb n 64) e in
         two (eqb-true k 2 q) (leb-true 1 n (h .0)) (leb-true n 64 (h .1))
-    go1 false false true f p q r s e = three (eqb-true k 3 r) (eqb-true n 56 e)
-    go1 false false false true p q r s e = four (eqb-true k 4 s) (eqb-true n 24 e)
+    go1 false false true f p q r s e = three (eqb-true k 3 r) (eqb-true n rowBytes e)
+    go1 false false false true p q r s e = four (eqb-true k 4 s) (eqb-true n (card64 .recordBytes) e)
     go1 false false false false p q r s e = absurd (false≢true e)
 
 -- what that says in numbers
@@ -153,7 +154,7 @@ module _ (i last : ℕ) (line : List ℕ) (got : Input) (ls : List (List ℕ)) w
   pub good-line : wellFormed last line ≡ true →
       reading i last got (line ∷ ls) ≡ cond (ltb past 3) (record { refusal = answer 1 past; input = got }) (reading (suc i) (kind line) (added line got) ls)
   unfolding reading ofLine first
-  good-line e = let a = added line got in rw e (go (ltb 65536 (length (a .section))) (ltb 49152 (length (a .records))) (ltb 57344 (length (a .values))))
+  good-line e = let a = added line got in rw e (go (ltb sectionLimit (length (a .section))) (ltb (card64 .recordsLimit) (length (a .records))) (ltb valuesLimit (length (a .values))))
     where
       go : (x y z : Bool) →
           let o : ℕ = cond x 0 (cond y 1 (cond z 2 3)) in
@@ -260,21 +261,16 @@ module _ (kind : ℕ) (line : List ℕ) (got : Gathered) (s v q : List ℕ) wher
         (sym (laid-none (got .section) s), (sym (laid-none (got .values) v), e)),
       )
 
--- no buffer is past its limit
-pub record Within (a b d : ℕ) : Type 0 where
-  pub section : a ≤ 65536
-  pub values : b ≤ 57344
-  pub records : d ≤ 49152
-
+-- no buffer is past its limit where none is found
 pub within : (a b d o : ℕ) → o ≡ overIn a b d → 3 ≤ o → Within a b d
-within a b d o e h = go (ltb 65536 a) (ltb 49152 d) (ltb 57344 b) refl refl refl (rw e at h)
+within a b d o e h = go (ltb sectionLimit a) (ltb (card64 .recordsLimit) d) (ltb valuesLimit b) refl refl refl (rw e at h)
   where
-    go : (x y z : Bool) → ltb 65536 a ≡ x → ltb 49152 d ≡ y → ltb 57344 b ≡ z → 3 ≤ cond x 0 (cond y 1 (cond z 2 3)) → Within a b d
+    go : (x y z : Bool) → ltb sectionLimit a ≡ x → ltb (card64 .recordsLimit) d ≡ y → ltb valuesLimit b ≡ z → 3 ≤ cond x 0 (cond y 1 (cond z 2 3)) → Within a b d
     go true y z p q r h = absurd (omega arith)
     go false true z p q r h = absurd (omega arith)
     go false false true p q r h = absurd (omega arith)
     go false false false p q r h =
-        record { section = ltb-false 65536 a p; values = ltb-false 57344 b r; records = ltb-false 49152 d q }
+        record { section = ltb-false sectionLimit a p; values = ltb-false valuesLimit b r; records = ltb-false (card64 .recordsLimit) d q }
 
 -- ---- between two lines
 
@@ -283,25 +279,25 @@ pub record State (input s₀ v₀ q₀ s v q : List ℕ) (got : Gathered) (last 
   pub number : got .number ≡ 0
   pub place : got .place ≡ 0
   pub on : at ≤ length input + 1
-  pub section : Filled 65536 (got .section) s₀ s
-  pub values : Filled 57344 (got .values) v₀ v
-  pub records : Filled 49152 (got .records) q₀ q
+  pub section : Filled sectionLimit (got .section) s₀ s
+  pub values : Filled valuesLimit (got .values) v₀ v
+  pub records : Filled (card64 .recordsLimit) (got .records) q₀ q
   pub few : lines ≤ last + (got .section + got .values + got .records)
   pub kinds : last ≤ 4
 
 -- what reading answers where it stops
 pub record Answered (input s₀ v₀ q₀ s v q : List ℕ) (r : Gathered) : Type 0 where
   pub is : readingIn r s v q ≡ readingOf input
-  pub section : Filled 65536 (r .section) s₀ s
-  pub values : Filled 57344 (r .values) v₀ v
-  pub records : Filled 49152 (r .records) q₀ q
+  pub section : Filled sectionLimit (r .section) s₀ s
+  pub values : Filled valuesLimit (r .values) v₀ v
+  pub records : Filled (card64 .recordsLimit) (r .records) q₀ q
 
 -- the line between two places
 abbrev pub between : List ℕ → ℕ → ℕ → List ℕ
 between input at end = take (end - at) (drop at input)
 
 module _ {input s₀ v₀ q₀ : List ℕ} where
-  pub start : length s₀ ≡ 65536 → length v₀ ≡ 57344 → length q₀ ≡ 49152 →
+  pub start : length s₀ ≡ sectionLimit → length v₀ ≡ valuesLimit → length q₀ ≡ card64 .recordsLimit →
       State input s₀ v₀ q₀ s₀ v₀ q₀ (record { number = 0; place = 0; address = 0; gp = 0; section = 0; values = 0; records = 0 }) 0 0 0
   start a b d =
       record {
@@ -356,9 +352,9 @@ module _ {input s₀ v₀ q₀ : List ℕ} where
         past-is =
             rw (
               ← f .is,
-              length-with 65536 (got .section) s₀ s k 2 (more .section) line (now .section) refl,
-              length-with 57344 (got .values) v₀ v k 3 (more .values) line (now .values) refl,
-              length-with 49152 (got .records) q₀ q k 4 (more .records) line (now .records) refl,
+              length-with sectionLimit (got .section) s₀ s k 2 (more .section) line (now .section) refl,
+              length-with valuesLimit (got .values) v₀ v k 3 (more .values) line (now .values) refl,
+              length-with (card64 .recordsLimit) (got .records) q₀ q k 4 (more .records) line (now .records) refl,
             )
 
         decided : cond (ltb (overIn (more .section) (more .values) (more .records)) 3)
@@ -396,9 +392,9 @@ module _ {input s₀ v₀ q₀ : List ℕ} where
                 rw (
                   ← f .is,
                   second,
-                  taken-more 65536 (got .section) s₀ s (own k 2 line) s' (now .section) (more .section) (counted (got .section) 2) (inside .section) (gathers .1 .0),
-                  taken-more 57344 (got .values) v₀ v (own k 3 line) v' (now .values) (more .values) (counted (got .values) 3) (inside .values) (gathers .1 .1 .0),
-                  taken-more 49152 (got .records) q₀ q (own k 4 line) q' (now .records) (more .records) (counted (got .records) 4) (inside .records) (gathers .1 .1 .1),
+                  taken-more sectionLimit (got .section) s₀ s (own k 2 line) s' (now .section) (more .section) (counted (got .section) 2) (inside .section) (gathers .1 .0),
+                  taken-more valuesLimit (got .values) v₀ v (own k 3 line) v' (now .values) (more .values) (counted (got .values) 3) (inside .values) (gathers .1 .1 .0),
+                  taken-more (card64 .recordsLimit) (got .records) q₀ q (own k 4 line) q' (now .records) (more .records) (counted (got .records) 4) (inside .records) (gathers .1 .1 .1),
                 )
 
             pub next : State input s₀ v₀ q₀ s' v' q' r k (lines + 1) (end + 1)
@@ -411,9 +407,9 @@ module _ {input s₀ v₀ q₀ : List ℕ} where
                   number = now .number;
                   place = now .place;
                   on = omega arith;
-                  section = filled-more 65536 (got .section) s₀ s (own k 2 line) s' (now .section) (more .section) (counted (got .section) 2) (inside .section) (gathers .1 .0);
-                  values = filled-more 57344 (got .values) v₀ v (own k 3 line) v' (now .values) (more .values) (counted (got .values) 3) (inside .values) (gathers .1 .1 .0);
-                  records = filled-more 49152 (got .records) q₀ q (own k 4 line) q' (now .records) (more .records) (counted (got .records) 4) (inside .records) (gathers .1 .1 .1);
+                  section = filled-more sectionLimit (got .section) s₀ s (own k 2 line) s' (now .section) (more .section) (counted (got .section) 2) (inside .section) (gathers .1 .0);
+                  values = filled-more valuesLimit (got .values) v₀ v (own k 3 line) v' (now .values) (more .values) (counted (got .values) 3) (inside .values) (gathers .1 .1 .0);
+                  records = filled-more (card64 .recordsLimit) (got .records) q₀ q (own k 4 line) q' (now .records) (more .records) (counted (got .records) 4) (inside .records) (gathers .1 .1 .1);
                   few = one-more last line k f lines (got .section) (got .values) (got .records) (now .few);
                   kinds = bounds (f .size) .most;
                 })

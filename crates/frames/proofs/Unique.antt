@@ -5,6 +5,8 @@ use mathlib.Core.List.{List, _++_}
 use mathlib.Core.Path.{_≡_, sym, ap, _∙_}
 use lib.ListN.{length, take, drop, take-append-drop}
 use lib.Seq.{length-take-le}
+use Rattle.meaning.specs.Call.{card64}
+use Rattle.meaning.specs.Checks.{sectionLimit, valuesLimit}
 use Rattle.meaning.specs.Frames.{Reading}
 use Rattle.frames.specs.declared.Gathered.{Gathered}
 use Rattle.frames.specs.Gathered.{Filled}
@@ -32,15 +34,15 @@ module _ (limit n m : ℕ) (came is is' : List ℕ) (f : Filled limit n came is)
 module _ (input s₀ v₀ q₀ s v q s' v' q' : List ℕ) (r r' : Gathered) (a : Answered input s₀ v₀ q₀ s v q r) (b : Answered input s₀ v₀ q₀ s' v' q' r') where
   pub same-section : s ≡ s'
   same-section =
-      same-bytes 65536 (r .section) (r' .section) s₀ s s' (a .section) (b .section) (ap (λ (x : Reading). x .input .section) (a .is ∙ sym (b .is)))
+      same-bytes sectionLimit (r .section) (r' .section) s₀ s s' (a .section) (b .section) (ap (λ (x : Reading). x .input .section) (a .is ∙ sym (b .is)))
 
   pub same-values : v ≡ v'
   same-values =
-      same-bytes 57344 (r .values) (r' .values) v₀ v v' (a .values) (b .values) (ap (λ (x : Reading). x .input .values) (a .is ∙ sym (b .is)))
+      same-bytes valuesLimit (r .values) (r' .values) v₀ v v' (a .values) (b .values) (ap (λ (x : Reading). x .input .values) (a .is ∙ sym (b .is)))
 
   pub same-records : q ≡ q'
   same-records =
-      same-bytes 49152 (r .records) (r' .records) q₀ q q' (a .records) (b .records) (ap (λ (x : Reading). x .input .records) (a .is ∙ sym (b .is)))
+      same-bytes (card64 .recordsLimit) (r .records) (r' .records) q₀ q q' (a .records) (b .records) (ap (λ (x : Reading). x .input .records) (a .is ∙ sym (b .is)))
 
   pub same-answer : r ≡ r'
   same-answer =
@@ -50,11 +52,11 @@ module _ (input s₀ v₀ q₀ s v q s' v' q' : List ℕ) (r r' : Gathered) (a :
       let address : r .address ≡ r' .address = ap (λ (x : Reading). x .input .address) e in
       let gp : r .gp ≡ r' .gp = ap (λ (x : Reading). x .input .gp) e in
       let section : r .section ≡ r' .section =
-      same-count 65536 (r .section) (r' .section) s₀ s s' (a .section) (b .section) (ap (λ (x : Reading). x .input .section) e) in
+      same-count sectionLimit (r .section) (r' .section) s₀ s s' (a .section) (b .section) (ap (λ (x : Reading). x .input .section) e) in
       let values : r .values ≡ r' .values =
-      same-count 57344 (r .values) (r' .values) v₀ v v' (a .values) (b .values) (ap (λ (x : Reading). x .input .values) e) in
+      same-count valuesLimit (r .values) (r' .values) v₀ v v' (a .values) (b .values) (ap (λ (x : Reading). x .input .values) e) in
       let records : r .records ≡ r' .records =
-      same-count 49152 (r .records) (r' .records) q₀ q q' (a .records) (b .records) (ap (λ (x : Reading). x .input .records) e) in
+      same-count (card64 .recordsLimit) (r .records) (r' .records) q₀ q q' (a .records) (b .records) (ap (λ (x : Reading). x .input .records) e) in
       built number place address gp section values records
     where
       built : r .number ≡ r' .number → r .place ≡ r' .place → r .address ≡ r' .address → r .gp ≡ r' .gp → r .section ≡ r' .section →

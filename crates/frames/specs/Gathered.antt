@@ -5,7 +5,8 @@ use mathlib.Core.Path.{_≡_}
 use Prim.Native.Nat.{ℕ, _+_, _-_, _/_, _≤_}
 use lib.Dec.{eqb, ltb}
 use lib.ListN.{length, take, drop}
-use Rattle.meaning.specs.Checks.{answer}
+use Rattle.meaning.specs.Call.{card64}
+use Rattle.meaning.specs.Checks.{answer, sectionLimit, valuesLimit}
 use Rattle.meaning.specs.Frames.{numeral, body, Input, Reading}
 use Rattle.frames.specs.declared.Gathered.{Gathered}
 
@@ -35,9 +36,15 @@ abbrev pub refusedAs : ℕ → ℕ → Gathered → Gathered
 refusedAs number place r =
     record { number = number; place = place; address = r .address; gp = r .gp; section = r .section; values = r .values; records = r .records }
 
--- The place of the first buffer past its limit, by how many bytes the section, the values and the records would have; 3 for none.
+-- No buffer is past its limit, by how many bytes the section, the values and the records have.
+pub record Within (s v q : ℕ) : Type 0 where
+  pub section : s ≤ sectionLimit
+  pub values : v ≤ valuesLimit
+  pub records : q ≤ card64 .recordsLimit
+
+-- The place of the first buffer past its limit, by how many bytes they would have; 3 for none.
 abbrev pub overIn : ℕ → ℕ → ℕ → ℕ
-overIn section values records = cond (ltb 65536 section) 0 (cond (ltb 49152 records) 1 (cond (ltb 57344 values) 2 3))
+overIn section values records = cond (ltb sectionLimit section) 0 (cond (ltb (card64 .recordsLimit) records) 1 (cond (ltb valuesLimit values) 2 3))
 
 -- The bytes that a frame has for the buffer of the kind `mine`.
 abbrev pub own : ℕ → ℕ → List ℕ → List ℕ

@@ -1,19 +1,18 @@
 // The program's input: frames read into lent buffers.
+use sizes::*;
 ghost use mathlib.Core.Bool.{true, cond, _&&_};
 ghost use mathlib.Core.Path.{_≡_};
 ghost use Prim.Native.Nat.{_+_, _-_, _*_, _/_, _%_, _≤_, _<_};
 ghost use lib.Dec.{eqb, ltb, leb};
 ghost use lib.ListN.{length, take, drop};
+ghost use Rattle.meaning.specs.Call.{card64};
+ghost use Rattle.meaning.specs.Checks.{sectionLimit, valuesLimit};
 ghost use Rattle.meaning.specs.Frames as F;
 ghost use Rattle.frames.specs.Text.{lineLength, digitsLength, laid};
-ghost use Rattle.frames.specs.Gathered.{readingIn, Filled, refusedAs, overIn, own, gatheredWith};
+ghost use Rattle.frames.specs.Gathered.{readingIn, Filled, refusedAs, Within, overIn, own, gatheredWith};
 
-// The limits of the buffers, in bytes.
-pub const SECTION: usize = 65536;
-
-pub const VALUES: usize = 57344;
-
-pub const RECORDS: usize = 49152;
+// The most section bytes of a frame.
+pub const LINE: usize = 64;
 
 fn within(b: u8, low: u8, high: u8) -> bool
     ensures { λ r. ⌜ r ≡ (leb low b && leb b high) ⌝ }
@@ -115,15 +114,15 @@ fn sized(kind: u8, n: usize) -> bool
     }
     if kind == 2 {
         if 1 <= n {
-            return n <= 64;
+            return n <= LINE;
         }
         return false;
     }
     if kind == 3 {
-        return n == 56;
+        return n == ROW;
     }
     if kind == 4 {
-        return n == 24;
+        return n == RECORD;
     }
     false
 }
@@ -259,17 +258,17 @@ pub struct Gathered {
 impl Gathered {
     // The place of the first buffer that a frame of n bytes takes past its limit, and 3 for none.
     fn over(self, kind: u8, n: usize) -> u32
-        requires { ⌜ (self .section ≤ 65536) × (self .records ≤ 49152) × (self .values ≤ 57344) ⌝ }
+        requires { ⌜ Within (self .section) (self .values) (self .records) ⌝ }
         ensures { λ r. ⌜ r ≡ overIn (self .section + cond (eqb kind 2) n 0) (self .values + cond (eqb kind 3) n 0)
             (self .records + cond (eqb kind 4) n 0) ⌝ }
     {
-        if past(kind, 2, self.section, n, SECTION) {
+        if past(kind, 2, self.section, n, SECTION_LIMIT) {
             return 0;
         }
-        if past(kind, 4, self.records, n, RECORDS) {
+        if past(kind, 4, self.records, n, RECORDS_LIMIT) {
             return 1;
         }
-        if past(kind, 3, self.values, n, VALUES) {
+        if past(kind, 3, self.values, n, VALUES_LIMIT) {
             return 2;
         }
         3
@@ -333,13 +332,13 @@ fn gather(
 
 // Reads all frames into the three buffers, line by line up to the first fault. The bytes past those counted stay as they came.
 pub fn read(input: &[u8], section: &mut [u8], values: &mut [u8], records: &mut [u8]) -> Gathered
-    requires { ⌜ length (now section) ≡ 65536 ⌝ }
-    requires { ⌜ length (now values) ≡ 57344 ⌝ }
-    requires { ⌜ length (now records) ≡ 49152 ⌝ }
+    requires { ⌜ length (now section) ≡ sectionLimit ⌝ }
+    requires { ⌜ length (now values) ≡ valuesLimit ⌝ }
+    requires { ⌜ length (now records) ≡ card64 .recordsLimit ⌝ }
     ensures { λ r. ⌜ readingIn r (now (section .exit)) (now (values .exit)) (now (records .exit)) ≡ F.readingOf (now (input .entry)) ⌝ }
-    ensures { λ r. ⌜ Filled 65536 (r .section) (now (section .entry)) (now (section .exit)) ⌝ }
-    ensures { λ r. ⌜ Filled 57344 (r .values) (now (values .entry)) (now (values .exit)) ⌝ }
-    ensures { λ r. ⌜ Filled 49152 (r .records) (now (records .entry)) (now (records .exit)) ⌝ }
+    ensures { λ r. ⌜ Filled sectionLimit (r .section) (now (section .entry)) (now (section .exit)) ⌝ }
+    ensures { λ r. ⌜ Filled valuesLimit (r .values) (now (values .entry)) (now (values .exit)) ⌝ }
+    ensures { λ r. ⌜ Filled (card64 .recordsLimit) (r .records) (now (records .entry)) (now (records .exit)) ⌝ }
 {
     let mut got = Gathered {
         number: 0,

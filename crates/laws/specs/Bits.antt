@@ -55,7 +55,7 @@ pub other-bits-stay : (c : Setting) (r : Record) (source : Source) (parts : List
     r .offset + 4 ≤ length s → b < 32 → InNoPart parts b →
     bitAt b (wordAt (r .offset) (effect c r (word source parts range) st s)) ≡ bitAt b (wordAt (r .offset) s)
 other-bits-stay c r source parts range st s b fits low none =
-    let x : ℕ = bitsOf (c .width) (wordValue c r st source) in
+    let x : ℕ = bitsOf (c .card .width) (wordValue c r st source) in
     let new : ℕ = put parts x (wordAt (r .offset) s) in
     ap (λ (t : List ℕ). bitAt b (number t)) (laid-inside (r .offset) 4 (bytesOf 4 new) s (length-bytesOf 4 new) fits)
     ∙ ap (bitAt b) (number-bytesOf 4 new)

@@ -9,14 +9,15 @@ use lib.Dec.{T, eqb, ltb, eqb·suc-zero}
 use lib.ListN.{length, take, drop, length-drop, take-append-drop}
 use lib.Seq.{length-take-le, take-append-le, drop-append-le, take-at, drop-at}
 use Rattle.meaning.specs.Numbers.{bytesOf, number, bitsOf}
-use Rattle.meaning.specs.Table.{Semantics, unnamed, idle, loaders, push, operation, word, bytes, semantics}
-use Rattle.meaning.specs.Call.{Setting, Record, recordsOf, formula}
+use Rattle.meaning.specs.Table.{Semantics, unnamed, idle, loaders, push, operation, word, bytes}
+use Rattle.meaning.specs.Call.{Setting, Call, Record, does, recordsOf, formula}
 use Rattle.meaning.specs.Stack.{Stack, after}
 use Rattle.meaning.specs.Field.{put}
 use Rattle.meaning.specs.Checks.{writes, outside, wordValue, ofRecord}
 use Rattle.meaning.specs.Patch.{replaced, combined, effect, patched}
 use Rattle.meaning.specs.Order.{common, commonWith, commonByte, mayChange}
 use Rattle.lemmas.specs.Bytes.{length-bytesOf}
+use Rattle.lemmas.specs.Passed.{passed}
 use Rattle.laws.specs.First.{Every, Passes}
 use Rattle.laws.specs.Replaced.{laid-length}
 use Rattle.laws.specs.Effect.{inside-section, effect-keeps}
@@ -97,13 +98,13 @@ Replaces at n leaves = (f : ℕ → ℕ) × ((s : List ℕ) → leaves s ≡ rep
 none : (at : ℕ) → Replaces at 0 (λ s. s)
 none at = (λ x. x, λ s. sym (replaced-none at (λ x. x) s))
 
-effect-replaces : (c : Setting) (r : Record) (does : Semantics) (st : Stack) → Replaces (r .offset) (writes does) (effect c r does st)
+effect-replaces : (c : Setting) (r : Record) (d : Semantics) (st : Stack) → Replaces (r .offset) (writes d) (effect c r d st)
 effect-replaces c r unnamed st = none (r .offset)
 effect-replaces c r idle st = none (r .offset)
 effect-replaces c r loaders st = none (r .offset)
 effect-replaces c r (push f) st = none (r .offset)
 effect-replaces c r (operation o) st = none (r .offset)
-effect-replaces c r (word source parts range) st = (put parts (bitsOf (c .width) (wordValue c r st source)), λ s. refl)
+effect-replaces c r (word source parts range) st = (put parts (bitsOf (c .card .width) (wordValue c r st source)), λ s. refl)
 effect-replaces c r (bytes way n f) st = (combined way n (formula c r f), λ s. refl)
 
 replaces-commute : (at n : ℕ) (a : List ℕ → List ℕ) → Replaces at n a → (at′ n′ : ℕ) (b : List ℕ → List ℕ) → Replaces at′ n′ b →
@@ -111,20 +112,19 @@ replaces-commute : (at n : ℕ) (a : List ℕ → List ℕ) → Replaces at n a 
 replaces-commute at n a (f, p) at′ n′ b (g, q) s i j h =
     simp (p, q) (replaced-commute at n f at′ n′ g s i j h)
 
--- How many bytes a record writes.
-abbrev long : Record → ℕ
-long r = writes (semantics (r .type))
-
 module _ (c : Setting) where
-  -- The stack after a record, what it leaves in the section, and its own checks.
+  -- How many bytes a record writes, the stack after it, what it leaves in the section, and its own checks.
+  abbrev long : Record → ℕ
+  long r = writes (does c r)
+
   abbrev next : Record → Stack → Stack
-  next r st = after c r (semantics (r .type)) st
+  next r st = after c r (does c r) st
 
   abbrev left : Record → Stack → List ℕ → List ℕ
-  left r st s = effect c r (semantics (r .type)) st s
+  left r st s = effect c r (does c r) st s
 
   abbrev Sound : Record → Stack → Type 0
-  Sound r st = Every Passes (ofRecord c 0 r (semantics (r .type)) st)
+  Sound r st = Every Passes (ofRecord c 0 r (does c r) st)
 
   -- Every record of a list passes its checks, with the stack before the first.
   abbrev pub Checked : Stack → List Record → Type 0
@@ -136,42 +136,44 @@ module _ (c : Setting) where
 
   inside : (r : Record) (st : Stack) (s : List ℕ) → Sized s → Sound r st →
       outside (length s) (r .offset) (long r) ≡ false
-  inside r st s e p = rw e (p .1 .1 .1 .1 .0)
+  inside r st s e p = rw e (passed c 0 r (does c r) st p .inside)
 
   left-sized : (r : Record) (st : Stack) (s : List ℕ) → Sized s → Sound r st → Sized (left r st s)
-  left-sized r st s e p = effect-keeps c r (semantics (r .type)) st s (inside r st s e p) .same-length ∙ e
+  left-sized r st s e p = effect-keeps c r (does c r) st s (inside r st s e p) .same-length ∙ e
 
   pub patched-sized : (st : Stack) (s : List ℕ) (rs : List Record) → Sized s → Checked st rs → Sized (patched c st s rs)
   unfolding patched
   patched-sized st s [] e p = e
   patched-sized st s (r ∷ rs) e p = patched-sized (next r st) (left r st s) rs (left-sized r st s e (p .0)) (p .1)
 
-  records-commute : (r q : Record) (st su : Stack) (s : List ℕ) → Sized s → Sound r st → Sound q su → common r q ≡ false →
+  records-commute : (r q : Record) (st su : Stack) (s : List ℕ) → Sized s → Sound r st → Sound q su → common c r q ≡ false →
       left q su (left r st s) ≡ left r st (left q su s)
   records-commute r q st su s e p k h =
-      replaces-commute (r .offset) (long r) (left r st) (effect-replaces c r (semantics (r .type)) st)
-      (q .offset) (long q) (left q su) (effect-replaces c q (semantics (q .type)) su) s (inside r st s e p) (inside q su s e k) h
+      replaces-commute (r .offset) (long r) (left r st) (effect-replaces c r (does c r) st)
+      (q .offset) (long q) (left q su) (effect-replaces c q (does c q) su) s (inside r st s e p) (inside q su s e k) h
 
   -- A record past a list of records, and two lists.
   record-past : (r : Record) (st su : Stack) (s : List ℕ) (qs : List Record) → Sized s → Sound r st → Checked su qs →
-      commonWith r qs ≡ false → patched c su (left r st s) qs ≡ left r st (patched c su s qs)
+      commonWith c r qs ≡ false → patched c su (left r st s) qs ≡ left r st (patched c su s qs)
   unfolding patched commonWith
   record-past r st su s [] e p k h = refl
   record-past r st su s (q ∷ qs) e p k h =
-      let (one, rest) = either-false (common r q) (commonWith r qs) h in
+      let (one, rest) = either-false (common c r q) (commonWith c r qs) h in
       ap (λ (x : List ℕ). patched c (next q su) x qs) (records-commute r q st su s e p (k .0) one)
       ∙ record-past r st (next q su) (left q su s) qs (left-sized q su s e (k .0)) p (k .1) rest
 
   lists-commute : (st su : Stack) (s : List ℕ) (rs qs : List Record) → Sized s → Checked st rs → Checked su qs →
-      commonByte rs qs ≡ false → patched c su (patched c st s rs) qs ≡ patched c st (patched c su s qs) rs
+      commonByte c rs qs ≡ false → patched c su (patched c st s rs) qs ≡ patched c st (patched c su s qs) rs
   unfolding patched commonByte
   lists-commute st su s [] qs e p k h = refl
   lists-commute st su s (r ∷ rs) qs e p k h =
-      let (one, rest) = either-false (commonWith r qs) (commonByte rs qs) h in
+      let (one, rest) = either-false (commonWith c r qs) (commonByte c rs qs) h in
       lists-commute (next r st) su (left r st s) rs qs (left-sized r st s e (p .0)) (p .1) k rest
       ∙ ap (λ (x : List ℕ). patched c (next r st) x rs) (record-past r st su s qs e (p .0) k one)
 
-  -- The one place that says why the rule is right: two groups that may change places leave the same in either order.
-  pub change-places : (s g h : List ℕ) → Sized s → Checked [] (recordsOf g) → Checked [] (recordsOf h) → T (mayChange g h) →
-      patched c [] (patched c [] s (recordsOf g)) (recordsOf h) ≡ patched c [] (patched c [] s (recordsOf h)) (recordsOf g)
-  change-places s g h e p k m = lists-commute [] [] s (recordsOf g) (recordsOf h) e p k (refuted _ m)
+-- The one place that says why the rule is right: two groups that may change places leave the same in either order.
+pub change-places : (c : Call) (s g h : List ℕ) → Sized (c .setting) s →
+    Checked (c .setting) [] (recordsOf c g) → Checked (c .setting) [] (recordsOf c h) → T (mayChange c g h) →
+    patched (c .setting) [] (patched (c .setting) [] s (recordsOf c g)) (recordsOf c h)
+    ≡ patched (c .setting) [] (patched (c .setting) [] s (recordsOf c h)) (recordsOf c g)
+change-places c s g h e p k m = lists-commute (c .setting) [] [] s (recordsOf c g) (recordsOf c h) e p k (refuted _ m)

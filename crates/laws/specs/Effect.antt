@@ -51,5 +51,5 @@ effect-keeps c r loaders st s h = kept-same _ _ s
 effect-keeps c r (push f) st s h = kept-same _ _ s
 effect-keeps c r (operation o) st s h = kept-same _ _ s
 effect-keeps c r (word source parts range) st s h =
-    replaced-keeps (r .offset) 4 (put parts (bitsOf (c .width) (wordValue c r st source))) s h
+    replaced-keeps (r .offset) 4 (put parts (bitsOf (c .card .width) (wordValue c r st source))) s h
 effect-keeps c r (bytes way n f) st s h = replaced-keeps (r .offset) n (combined way n (formula c r f)) s h

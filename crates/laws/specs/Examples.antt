@@ -8,10 +8,10 @@ use lib.IntN.{pos}
 use lib.ListN.{getD}
 use Rattle.meaning.specs.Numbers.{number, bytesOf, cut}
 use Rattle.meaning.specs.Table.{Accepted, from_to_, any, stack, bits_⋯_to_⋯_, neg, table, look}
-use Rattle.meaning.specs.Call.{Setting, Record, recordsOf}
+use Rattle.meaning.specs.Call.{Call, card64, Record, symbol0, recordsOf}
 use Rattle.meaning.specs.Field.{put}
 use Rattle.meaning.specs.Checks.{Answer, answer, first, ofRecords, ofMasks, checks}
-use Rattle.meaning.specs.Patch.{setting, answerOf, patched, sectionOf}
+use Rattle.meaning.specs.Patch.{call, answerOf, patched, sectionOf}
 use Rattle.meaning.specs.ReadBack.{readBackOf}
 use Rattle.meaning.specs.Order.{run}
 use Rattle.lemmas.specs.Bytes.{bytesOf-bytes}
@@ -25,8 +25,8 @@ use Rattle.laws.specs.ReadBack.{WordUntouched, read-back-gives}
 pub code : List ℕ
 code = bytesOf 4 0x02c00184 ++ (bytesOf 4 0x50000000 ++ bytesOf 4 0x04030201)
 
-pub at-1000 : Setting
-at-1000 = setting code [] 0x1000 0
+pub at-1000 : Call
+at-1000 = call code [] 0x1000 0
 
 -- -3 pushed (23) and put into the first word (40), the way to 1014h put into the second (66), 7 added to the byte at 8 (47)
 pub four : List ℕ
@@ -41,8 +41,8 @@ accepted = (refl, refl)
 -- ---- bits
 
 -- Byte 1 is rewritten, from 01h to f5h, but its bit 0 is in no field: it is the first word's bit 8, of $t0.
-pub in-no-field : BitUntouched (recordsOf four) 1 0
-unfolding four record-bytes number bytesOf cut table look
+pub in-no-field : BitUntouched (at-1000 .setting) (recordsOf at-1000 four) 1 0
+unfolding at-1000 four record-bytes number bytesOf cut table look
 in-no-field = (inr tt, (inr (inl (omega arith), tt), (inl (omega arith), (inl (omega arith), tt))))
 
 pub code-bytes : Bytes code
@@ -57,29 +57,33 @@ bit-kept = named-bits-only at-1000 four code refl code-bytes 1 0 (omega arith) i
 
 -- ---- read back
 
+-- The record that `record-bytes` has the bytes of.
+pub record-at : ℕ → ℕ → ℕ → Record
+record-at offset type addend = record { offset = offset; type = type; symbol = 0; addend = addend; row = symbol0 }
+
 -- The push, the record that puts -3 into the word at 0, and those after it, which write no byte of that word.
 pub before : List Record
-before = record { offset = 0; type = 23; symbol = 0; addend = 2 ^ 64 - 3 } ∷ []
+before = record-at 0 23 (2 ^ 64 - 3) ∷ []
 
 pub pop : Record
-pop = record { offset = 0; type = 40; symbol = 0; addend = 0 }
+pop = record-at 0 40 0
 
 pub later : List Record
-later = record { offset = 4; type = 66; symbol = 0; addend = 0x1014 } ∷ record { offset = 8; type = 47; symbol = 0; addend = 7 } ∷ []
+later = record-at 4 66 0x1014 ∷ record-at 8 47 7 ∷ []
 
-pub in-list : recordsOf four ≡ before ++ pop ∷ later
-unfolding four record-bytes number bytesOf cut before pop later
+pub in-list : recordsOf at-1000 four ≡ before ++ pop ∷ later
+unfolding at-1000 four record-bytes number bytesOf cut record-at before pop later
 in-list = refl
 
-pub none-later : WordUntouched later 0
-unfolding later
+pub none-later : WordUntouched (at-1000 .setting) later 0
+unfolding record-at later
 none-later i from-0 below-4 = (inl (omega arith), (inl (omega arith), tt))
 
 -- So read back of the word at 0, as type 40, gives -3.
-pub read-back-example : readBackOf 64 (sectionOf at-1000 four code) 0x1000 0 40 ≡ record { number = 0; place = 0; value = neg 3 }
-unfolding at-1000 before pop number bytesOf table look run
+pub read-back-example : readBackOf card64 (sectionOf at-1000 four code) 0x1000 0 40 ≡ record { number = 0; place = 0; value = neg 3 }
+unfolding at-1000 record-at before pop number bytesOf table look run
 read-back-example =
     let range : Accepted = from (neg 2048) to (pos 2047) in
     let checked : range ≢ any = λ e. let z : _≡_ {A = ℕ} 0 1 = cc in omega arith in
-    read-back-gives code four [] 0x1000 0 before later pop stack (bits 11 ⋯ 0 to 21 ⋯ 10 ∷ []) range
-    (ap (λ (a : Answer). a .number) (accepted .0)) in-list refl none-later checked
+    read-back-gives at-1000 code four refl before later pop stack (bits 11 ⋯ 0 to 21 ⋯ 10 ∷ []) range
+    (ap (λ (a : Answer). a .number) (accepted .0)) in-list refl none-later (omega arith) checked

@@ -9,7 +9,7 @@ use mathlib.Core.Path.{_≡_, refl, sym, ap, ap₂, _∙_, subst}
 use borrow.Author.Tests.{lt-ltb, le-ltb}
 use lib.Dec.{T, eqb, ltb, leb, eqb→eq, ltb→lt, leb→le}
 use lib.IntN.{ℤ, pos, negsuc, negℤ, natAbs}
-use lib.Pow.{pow-pos, suc-ones, shr-shr, mod-pow-add, mod-mod-pow, field, not-mod}
+use lib.Pow.{pow-pos, pow-add, suc-ones, shr-shr, mod-pow-add, mod-mod-pow, field, not-mod}
 use lib.Signed.{mag}
 use Rattle.meaning.specs.Numbers.{signed, bitsOf}
 use Rattle.meaning.specs.Table.{Part, bits_⋯_to_⋯_, Accepted, from_to_, signed-multiple-of-4, any}
@@ -27,8 +27,8 @@ pub either : (a b : Bool) → T (a || b) → T a ⊎ T b
 either true b h = inl tt
 either false b h = inr h
 
--- A sound part lies inside the word and inside the value.
-inside-fits : (p : Part) → T (inside p) → (many p + at p ≤ 32) × (many p + low p ≤ 64)
+-- A sound part lies inside the word.
+inside-fits : (p : Part) → T (inside p) → many p + at p ≤ 32
 unfolding inside
 inside-fits (bits h ⋯ l to H ⋯ L) t =
     let (t₄, equal) = both (leb l h && ltb h 64 && leb L H && ltb H 32) (eqb (H - L) (h - l)) t in
@@ -39,7 +39,7 @@ inside-fits (bits h ⋯ l to H ⋯ L) t =
 
 -- What soundness says of the first part and of the others.
 record First (p : Part) (ps : List Part) : Type 0 where
-  fits : (many p + at p ≤ 32) × (many p + low p ≤ 64)
+  fits : many p + at p ≤ 32
   alone : T (apartFrom p ps)
   adjoins : T (adjoining p ps)
   others : T (soundParts ps)
@@ -118,16 +118,7 @@ unfolding bare
 bare-mod [] w h = refl
 bare-mod (p ∷ ps) w h =
     let f = first-part p ps h in
-    ap₂ (λ (a b : ℕ). a * 2 ^ wide ps + b) (slice-mod (at p) (many p) 32 w (f .fits .0)) (bare-mod ps w (f .others))
-
--- The value's bits in the field are bits of 64.
-wide-fits : (parts : List Part) → T (soundParts parts) → wide parts + lowest parts ≤ 64
-unfolding wide lowest
-wide-fits [] h = omega arith
-wide-fits (p ∷ ps) h =
-    let f = first-part p ps h in
-    let e = top p ps h in
-    omega arith
+    ap₂ (λ (a b : ℕ). a * 2 ^ wide ps + b) (slice-mod (at p) (many p) 32 w (f .fits)) (bare-mod ps w (f .others))
 
 -- ---- a value's bits back to the value
 
@@ -145,31 +136,42 @@ twice n h =
     let e : n ≡ suc (n - 1) = omega arith in
     ap (λ (m : ℕ). 2 ^ m) e ∙ pow-suc 2 (n - 1)
 
--- The low n bits of a number that n bits hold, read as signed, are the number.
-signed-low : (n : ℕ) (z : ℤ) → 1 ≤ n → n ≤ 64 → mag z < 2 ^ (n - 1) → signed n (bitsOf 64 z % 2 ^ n) ≡ z
-signed-low n (pos a) one most small =
+-- The low n of a number's w bits, where n bits hold it, read as signed, are the number.
+signed-low : (w n : ℕ) (z : ℤ) → 1 ≤ n → n ≤ w → mag z < 2 ^ (n - 1) → signed n (bitsOf w z % 2 ^ n) ≡ z
+signed-low w n (pos a) one most small =
     let e = twice n one in
     let l : a < 2 ^ n = omega arith in
     rw (mod-eq-of-lt l, lt-ltb a (2 ^ (n - 1)) small)
-signed-low n (negsuc a) one most small =
+signed-low w n (negsuc a) one most small =
     let e = twice n one in
     let l : a < 2 ^ n = omega arith in
-    let d : 64 - n + n ≡ 64 = omega arith in
-    let c : 2 ^ 64 - suc a ≡ 2 ^ 64 - 1 - a = omega arith in
-    let m : (2 ^ 64 - suc a) % 2 ^ n ≡ 2 ^ n - 1 - a =
-    ap (λ (y : ℕ). y % 2 ^ n) c ∙ subst (λ (j : ℕ). (2 ^ j - 1 - a) % 2 ^ n ≡ 2 ^ n - 1 - a) d (not-mod (64 - n) n l) in
+    let d : w - n + n ≡ w = omega arith in
+    let c : 2 ^ w - suc a ≡ 2 ^ w - 1 - a = omega arith in
+    let m : (2 ^ w - suc a) % 2 ^ n ≡ 2 ^ n - 1 - a =
+    ap (λ (y : ℕ). y % 2 ^ n) c ∙ subst (λ (j : ℕ). (2 ^ j - 1 - a) % 2 ^ n ≡ 2 ^ n - 1 - a) d (not-mod (w - n) n l) in
     let high : 2 ^ (n - 1) ≤ 2 ^ n - 1 - a = omega arith in
     let back : 2 ^ n - suc (2 ^ n - 1 - a) ≡ a = omega arith in
     rw (m, le-ltb (2 ^ n - 1 - a) (2 ^ (n - 1)) high) (ap negsuc back)
 
 -- A signed number of n bits above k zeros.
-signed-back : (k n : ℕ) (z : ℤ) → 1 ≤ n → n + k ≤ 64 → bitsOf 64 z % 2 ^ k ≡ 0 → mag z < 2 ^ (n + k - 1) →
-    signed (n + k) (slice k n (bitsOf 64 z) * 2 ^ k) ≡ z
-signed-back k n z one most h small =
+signed-back : (w k n : ℕ) (z : ℤ) → 1 ≤ n → n + k ≤ w → bitsOf w z % 2 ^ k ≡ 0 → mag z < 2 ^ (n + k - 1) →
+    signed (n + k) (slice k n (bitsOf w z) * 2 ^ k) ≡ z
+signed-back w k n z one most h small =
     let l : 1 ≤ n + k = omega arith in
-    ap (signed (n + k)) (restored k n (bitsOf 64 z) h) ∙ signed-low (n + k) z l most small
+    ap (signed (n + k)) (restored k n (bitsOf w z) h) ∙ signed-low w (n + k) z l most small
 
 -- ---- ranges
+
+-- Are the accepted values checked.
+abbrev pub checked : Accepted → Bool
+checked (from l to h) = true
+checked (signed-multiple-of-4 n) = true
+checked any = false
+
+pub not-any : (range : Accepted) → range ≢ any → T (checked range)
+not-any (from l to h) n = tt
+not-any (signed-multiple-of-4 k) n = tt
+not-any any n = n refl
 
 -- A test whose failure is false passes.
 passes : (b : Bool) → not b ≡ false → T b
@@ -182,20 +184,23 @@ signed-range m l h (pos a) e f t = let g = leb→le a h t in omega arith
 signed-range m l h (negsuc a) e f t = let g = leb→le a l (both (leb a l) true t .0) in omega arith
 
 -- A multiple of 4 has two zeros below.
-two-zeros : (z : ℤ) → natAbs z % 4 ≡ 0 → bitsOf 64 z % 2 ^ 2 ≡ 0
-two-zeros (pos a) h = h
-two-zeros (negsuc a) h = omega arith
+two-zeros : (w : ℕ) (z : ℤ) → 2 ≤ w → natAbs z % 4 ≡ 0 → bitsOf w z % 2 ^ 2 ≡ 0
+two-zeros w (pos a) two h = h
+two-zeros w (negsuc a) two h =
+    let e : w ≡ w - 2 + 2 = omega arith in
+    let four : 2 ^ w ≡ 2 ^ (w - 2) * 4 = ap (λ (j : ℕ). 2 ^ j) e ∙ pow-add 2 (w - 2) 2 in
+    omega arith
 
 -- No zeros below are asked for where the field begins at bit 0.
 no-zeros : (k x : ℕ) → k ≡ 0 → x % 2 ^ k ≡ 0
 no-zeros k x e = rw e (mod-one x)
 
--- Where the range holds the value and the field has the value's bits, the field's value is the value.
-pub range-back : (parts : List Part) (range : Accepted) (z : ℤ) (held : ℕ) → T (soundParts parts) → T (holdsRange parts range) →
+-- Where the range holds the value and the field has the value's bits, of which there are w, the field's value is the value.
+pub range-back : (w : ℕ) (parts : List Part) (range : Accepted) (z : ℤ) (held : ℕ) → wide parts + lowest parts ≤ w → T (holdsRange parts range) →
     range ≢ any → beyond range z ≡ false → notMultiple range z ≡ false →
-    bare parts held ≡ slice (lowest parts) (wide parts) (bitsOf 64 z) → fieldValue parts range held ≡ z
+    bare parts held ≡ slice (lowest parts) (wide parts) (bitsOf w z) → fieldValue parts range held ≡ z
 unfolding holdsRange
-range-back parts (from pos l to pos h) (pos a) held s t n b m e =
+range-back w parts (from pos l to pos h) (pos a) held fits t n b m e =
     let (t₂, low) = both (eqb l 0 && eqb (suc h) (2 ^ wide parts)) (eqb (lowest parts) 0) t in
     let last = eqb→eq (suc h) (2 ^ wide parts) (both (eqb l 0) (eqb (suc h) (2 ^ wide parts)) t₂ .1) in
     let none = eqb→eq (lowest parts) 0 low in
@@ -204,8 +209,8 @@ range-back parts (from pos l to pos h) (pos a) held s t n b m e =
     let small : a < 2 ^ wide parts = omega arith in
     ap pos (ap (λ (y : ℕ). y * 2 ^ lowest parts) e
     ∙ unsigned-back (lowest parts) (wide parts) a (no-zeros (lowest parts) a none) (subst (λ (j : ℕ). a < 2 ^ j) all small))
-range-back parts (from pos l to pos h) (negsuc a) held s t n b m e = absurd (true≢false b)
-range-back parts (from negsuc l to pos h) z held s t n b m e =
+range-back w parts (from pos l to pos h) (negsuc a) held fits t n b m e = absurd (true≢false b)
+range-back w parts (from negsuc l to pos h) z held fits t n b m e =
     let half : ℕ = 2 ^ (wide parts - 1) in
     let (t₃, some) = both (eqb (suc l) half && eqb (suc h) half && eqb (lowest parts) 0) (leb 1 (wide parts)) t in
     let (t₂, low) = both (eqb (suc l) half && eqb (suc h) half) (eqb (lowest parts) 0) t₃ in
@@ -214,11 +219,11 @@ range-back parts (from negsuc l to pos h) z held s t n b m e =
     let all : wide parts - 1 ≡ wide parts + lowest parts - 1 = omega arith in
     let small = signed-range half l h z (eqb→eq (suc l) half least) (eqb→eq (suc h) half most) (passes (between (negsuc l) (pos h) z) b) in
     ap (λ (y : ℕ). signed (wide parts + lowest parts) (y * 2 ^ lowest parts)) e
-    ∙ signed-back (lowest parts) (wide parts) z (leb→le 1 (wide parts) some) (wide-fits parts s)
-    (no-zeros (lowest parts) (bitsOf 64 z) none) (subst (λ (j : ℕ). mag z < 2 ^ j) all small)
-range-back parts (from pos l to negsuc h) z held s t n b m e = absurd t
-range-back parts (from negsuc l to negsuc h) z held s t n b m e = absurd t
-range-back parts (signed-multiple-of-4 k) z held s t n b m e =
+    ∙ signed-back w (lowest parts) (wide parts) z (leb→le 1 (wide parts) some) fits
+    (no-zeros (lowest parts) (bitsOf w z) none) (subst (λ (j : ℕ). mag z < 2 ^ j) all small)
+range-back w parts (from pos l to negsuc h) z held fits t n b m e = absurd t
+range-back w parts (from negsuc l to negsuc h) z held fits t n b m e = absurd t
+range-back w parts (signed-multiple-of-4 k) z held fits t n b m e =
     let half : ℕ = 2 ^ (k - 1) in
     let (t₂, some) = both (eqb k (wide parts + lowest parts) && eqb (lowest parts) 2) (leb 1 (wide parts)) t in
     let (all, low) = both (eqb k (wide parts + lowest parts)) (eqb (lowest parts) 2) t₂ in
@@ -229,8 +234,9 @@ range-back parts (signed-multiple-of-4 k) z held s t n b m e =
     let small = signed-range half (half - 1) (half - 1) z least least
     (subst (λ (y : ℕ). T (between (negℤ (pos y)) (pos (half - 1)) z)) (sym least) inside) in
     let four = eqb→eq (natAbs z % 4) 0 (passes (eqb (natAbs z % 4) 0) m) in
+    let zeros = two-zeros w z (omega arith) four in
     ap₂ (λ (j y : ℕ). signed j (y * 2 ^ lowest parts)) whole e
-    ∙ signed-back (lowest parts) (wide parts) z (leb→le 1 (wide parts) some) (wide-fits parts s)
-    (subst (λ (j : ℕ). bitsOf 64 z % 2 ^ j ≡ 0) (sym two) (two-zeros z four))
+    ∙ signed-back w (lowest parts) (wide parts) z (leb→le 1 (wide parts) some) fits
+    (subst (λ (j : ℕ). bitsOf w z % 2 ^ j ≡ 0) (sym two) zeros)
     (subst (λ (j : ℕ). mag z < 2 ^ (j - 1)) whole small)
-range-back parts any z held s t n b m e = absurd (n refl)
+range-back w parts any z held fits t n b m e = absurd (n refl)

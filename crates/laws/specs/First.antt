@@ -5,52 +5,37 @@ use mathlib.Core.Bool.{true, false}
 use mathlib.Core.List.{List, [], _∷_}
 use mathlib.Core.Logic.{_↔_}
 use mathlib.Core.Path.{_≡_, refl, ap}
-use Rattle.meaning.specs.Call.{Setting, Record, recordsOf, rowsOf}
+use Rattle.meaning.specs.Call.{Setting, Call, Record, does, recordsOf, rowsOf}
 use Rattle.meaning.specs.Stack.{Stack, after}
-use Rattle.meaning.specs.Table.{Semantics, semantics}
 use Rattle.meaning.specs.Checks.{Answer, answer, ofRecord, ofRecords, ofMasks, checks}
 use Rattle.meaning.specs.Patch.{answerOf}
 pub use Rattle.lemmas.specs.First.{Every, Passes, Numbered, nth, every-append, every-left, every-right, every-nth, nth-every}
 pub use Rattle.lemmas.specs.First.{first-passed, first-at, zero-passes}
 use Rattle.lemmas.specs.First.{masks-numbered}
+use Rattle.lemmas.specs.Passed.{record-numbered}
 
 -- ---- the checks of a call
-
-record-numbered : (c : Setting) (i : ℕ) (r : Record) (does : Semantics) (st : Stack) → Every Numbered (ofRecord c i r does st)
-record-numbered c i r does st = omega arith
 
 records-numbered : (c : Setting) (i : ℕ) (st : Stack) (rs : List Record) → Every Numbered (ofRecords c i st rs)
 unfolding ofRecords
 records-numbered c i st [] = omega arith
 records-numbered c i st (r ∷ rs) =
-    every-append Numbered (ofRecord c i r (semantics (r .type)) st) (ofRecords c (suc i) (after c r (semantics (r .type)) st) rs)
-    (record-numbered c i r (semantics (r .type)) st)
-    (records-numbered c (suc i) (after c r (semantics (r .type)) st) rs)
+    every-append Numbered (ofRecord c i r (does c r) st) (ofRecords c (suc i) (after c r (does c r) st) rs)
+    (record-numbered c i r (does c r) st)
+    (records-numbered c (suc i) (after c r (does c r) st) rs)
 
-pub checks-numbered : (c : Setting) (records : List ℕ) → Every Numbered (checks c records)
+pub checks-numbered : (c : Call) (records : List ℕ) → Every Numbered (checks c records)
 unfolding checks
-checks-numbered c records = (
-  omega arith,
-  (
-    omega arith,
-    (
-      omega arith,
-      (
-        omega arith,
-        (
-          omega arith,
-          every-append Numbered (ofMasks 0 (rowsOf c)) (ofRecords c 0 [] (recordsOf records))
-              (masks-numbered 0 (rowsOf c)) (records-numbered c 0 [] (recordsOf records)),
-        ),
-      ),
-    ),
-  ),
-)
+checks-numbered c records =
+    let masks = ofMasks 0 (rowsOf (c .values)) in
+    let each = ofRecords (c .setting) 0 [] (recordsOf c records) in
+    let rest = every-append Numbered masks each (masks-numbered 0 (rowsOf (c .values))) (records-numbered (c .setting) 0 [] (recordsOf c records)) in
+    (omega arith, (omega arith, (omega arith, (omega arith, (omega arith, rest)))))
 
 -- ---- the theorems
 
 -- Accepted exactly when no check fails.
-pub accepted-exactly : (c : Setting) (records : List ℕ) →
+pub accepted-exactly : (c : Call) (records : List ℕ) →
     (answerOf c records .number ≡ 0) ↔ ((n : ℕ) → nth (checks c records) n .fails ≡ false)
 accepted-exactly c records = (
   (λ e. every-nth Passes refl (checks c records) (zero-passes (checks c records) _ (checks-numbered c records) e)),
@@ -58,7 +43,7 @@ accepted-exactly c records = (
 )
 
 -- A call that some check refuses answers with the number and the place of the first that fails.
-pub refused-by-the-first : (c : Setting) (records : List ℕ) (n : ℕ) → nth (checks c records) n .fails ≡ true →
+pub refused-by-the-first : (c : Call) (records : List ℕ) (n : ℕ) → nth (checks c records) n .fails ≡ true →
     ((m : ℕ) → m < n → nth (checks c records) m .fails ≡ false) →
     answerOf c records ≡ answer (nth (checks c records) n .number) (nth (checks c records) n .place)
 refused-by-the-first c records n p q = first-at (checks c records) _ n p q

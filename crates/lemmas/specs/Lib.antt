@@ -1,4 +1,5 @@
 pub mod First
+pub mod Passed
 pub mod Pieces
 pub mod Look
 pub mod Bytes

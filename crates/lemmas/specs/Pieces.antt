@@ -32,12 +32,12 @@ unfolding cut
 from-end size s n = rw sub-self
 
 -- the piece of a number, out of the list
-pub piece-at : (size : ℕ) (s : List ℕ) (n k : ℕ) → k < n → getD (cut size n s) k [] ≡ piece size s k
+pub piece-at : (size : ℕ) (s : List ℕ) (n k : ℕ) (none : List ℕ) → k < n → getD (cut size n s) k none ≡ piece size s k
 unfolding cut
-piece-at size s zero k h = absurd (not-suc-le-zero h)
-piece-at size s (suc n) zero h = rw mul-zero
-piece-at size s (suc n) (suc k) h =
-    piece-at size (drop size s) n k (le-of-suc-le-suc h)
+piece-at size s zero k none h = absurd (not-suc-le-zero h)
+piece-at size s (suc n) zero none h = rw mul-zero
+piece-at size s (suc n) (suc k) none h =
+    piece-at size (drop size s) n k none (le-of-suc-le-suc h)
     ∙ ap (take size) (drop-drop (size * k) size s ∙ ap (λ (m : ℕ). drop m s) (add-comm size (size * k) ∙ sym (mul-suc size k)))
 
 pub length-cut : (size n : ℕ) (s : List ℕ) → length (cut size n s) ≡ n

@@ -4,7 +4,7 @@ use mathlib.Core.Bool.{Bool, true, false, _&&_}
 use mathlib.Core.List.{List, [], _∷_, _++_}
 use lib.Dec.{eqb}
 use Rattle.meaning.specs.Numbers.{bytesOf}
-use Rattle.meaning.specs.Patch.{setting, answerOf, sectionOf}
+use Rattle.meaning.specs.Patch.{call, answerOf, sectionOf}
 
 -- the bytes of a record
 unfoldable pub rela : ℕ → ℕ → ℕ → ℕ → List ℕ
@@ -36,7 +36,7 @@ same (x ∷ xs) (y ∷ ys) = eqb x y && same xs ys
 
 unfoldable pub holds : Case → Bool
 holds e =
-    let c = setting (e .section) (e .values) (e .address) (e .gp) in
+    let c = call (e .section) (e .values) (e .address) (e .gp) in
     let a = answerOf c (e .records) in
     eqb (a .number) (e .number) && eqb (a .place) (e .place) && same (sectionOf c (e .records) (e .section)) (e .left)
 

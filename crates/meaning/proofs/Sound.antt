@@ -1,10 +1,10 @@
--- That every row's description is sound: a test of a row, computed over the whole table.
+-- That every type's description is sound: a test of what a type does, computed over the whole table.
 use Prim.Native.Nat.{suc, _+_, _-_, _^_}
 use mathlib.Core.Bool.{Bool, true, false, _&&_, _||_}
 use mathlib.Core.List.{List, [], _∷_}
 use lib.Dec.{T, eqb, ltb, leb}
 use lib.IntN.{pos, negsuc}
-use Rattle.meaning.specs.Table.{Part, bits_⋯_to_⋯_, Accepted, from_to_, signed-multiple-of-4, any, Semantics, unnamed, idle, loaders, push, operation, word, bytes, Row, type, table}
+use Rattle.meaning.specs.Table.{Part, bits_⋯_to_⋯_, Accepted, from_to_, signed-multiple-of-4, any, Semantics, unnamed, idle, loaders, push, operation, word, bytes, Named, type, table}
 use Rattle.meaning.specs.Field.{many, low, at, wide, lowest}
 
 -- A part `bits h ⋯ l to H ⋯ L` lies inside the value and inside the word, and has as many bits in the one as in the other.
@@ -46,9 +46,9 @@ sound (operation o) = true
 sound (word source parts range) = soundParts parts && holdsRange parts range
 sound (bytes way n f) = leb 1 n && leb n 8
 
-unfoldable pub allSound : List Row → Bool
+unfoldable pub allSound : List Named → Bool
 allSound [] = true
-allSound (type n does ∷ rows) = sound does && allSound rows
+allSound (type n does ∷ more) = sound does && allSound more
 
 pub table-sound : T (allSound table)
 unfolding allSound sound holdsRange soundParts adjoining apartFrom apart inside wide lowest table

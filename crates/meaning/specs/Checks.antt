@@ -9,8 +9,8 @@ use lib.ListN.{length}
 use lib.Signed.{leZ}
 use Rattle.meaning.specs.Numbers.{signed}
 use Rattle.meaning.specs.Table.{Value, Semantics, unnamed, idle, loaders, push, operation, word, bytes, Source, stack, of}
-use Rattle.meaning.specs.Table.{Operation, dup, assert, sub, sl, sr, add, and, if-else, Accepted, from_to_, signed-multiple-of-4, any, semantics}
-use Rattle.meaning.specs.Call.{Setting, Record, recordsOf, rowsOf, mask, present, row, PC, valueOf, sumOf, formula}
+use Rattle.meaning.specs.Table.{Operation, dup, assert, sub, sl, sr, add, and, if-else, Accepted, from_to_, signed-multiple-of-4, any}
+use Rattle.meaning.specs.Call.{Setting, Call, Record, does, recordsOf, rowBytes, rowsOf, mask, present, PC, valueOf, sumOf, formula}
 use Rattle.meaning.specs.Stack.{depth, Stack, entry, isZero, taken, after}
 
 -- An answer: the number of refusal, 0 for none, and its place.
@@ -34,6 +34,19 @@ check n p f = record { number = n; place = p; fails = f }
 unfoldable pub first : List Check → Answer → Answer
 first [] passed = passed
 first (k ∷ ks) passed = cond (k .fails) (answer (k .number) (k .place)) (first ks passed)
+
+-- ---- what the checks of a call ask
+
+-- 1: at most 65,536 section bytes and, in 1,024 rows, 57,344 value bytes. How many record bytes, the card says.
+abbrev pub sectionLimit : ℕ
+sectionLimit = 65536
+
+abbrev pub valuesLimit : ℕ
+valuesLimit = 57344
+
+-- 3: the highest mask, with every value present
+abbrev pub maskLimit : ℕ
+maskLimit = 63
 
 -- ---- what the checks of a record ask
 
@@ -60,11 +73,11 @@ uses (bytes way n f) = some (valueOf (sumOf f))
 
 abbrev pub past : Setting → Record → Option Value → Bool
 past c r none = false
-past c r (some v) = ltb (length (rowsOf c)) (r .symbol)
+past c r (some v) = ltb (c .rows) (r .symbol)
 
-abbrev pub absent : Setting → Record → Option Value → Bool
-absent c r none = false
-absent c r (some v) = not (present v (row c r))
+abbrev pub absent : Record → Option Value → Bool
+absent r none = false
+absent r (some v) = not (present v (r .row))
 
 -- 8: how many bytes a type writes. Offset and count are added as whole numbers.
 abbrev pub writes : Semantics → ℕ
@@ -113,14 +126,14 @@ ofOperation c unnamed st = 0
 ofOperation c idle st = 0
 ofOperation c loaders st = 0
 ofOperation c (push f) st = 0
-ofOperation c (operation o) st = refuses (c .width) o (entry st 0)
+ofOperation c (operation o) st = refuses (c .card .width) o (entry st 0)
 ofOperation c (word source parts range) st = 0
 ofOperation c (bytes way n f) st = 0
 
 -- 14, 15: a word's value is the entry on top, or a formula's value read as a signed number.
 abbrev pub wordValue : Setting → Record → Stack → Source → ℤ
 wordValue c r st stack = entry st 0
-wordValue c r st (of f) = signed (c .width) (formula c r f)
+wordValue c r st (of f) = signed (c .card .width) (formula c r f)
 
 abbrev pub between : ℤ → ℤ → ℤ → Bool
 between l h z = leZ l z && leZ z h
@@ -144,7 +157,7 @@ ofRecord c i r does st =
     check 4 i (eqb (refused does) 4) ∷
     check 5 i (eqb (refused does) 5) ∷
     check 6 i (past c r (uses does)) ∷
-    check 7 i (absent c r (uses does)) ∷
+    check 7 i (absent r (uses does)) ∷
     check 8 i (outside (c .size) (r .offset) (writes does)) ∷
     check 9 i (ofWord does (λ source range. unaligned (PC c r))) ∷
     check 10 i (ltb (length st) (taken does)) ∷
@@ -160,20 +173,20 @@ ofRecord c i r does st =
 unfoldable pub ofRecords : Setting → ℕ → Stack → List Record → List Check
 ofRecords c i st [] = check 16 i (not (eqb (length st) 0)) ∷ []
 ofRecords c i st (r ∷ rs) =
-    ofRecord c i r (semantics (r .type)) st ++ ofRecords c (suc i) (after c r (semantics (r .type)) st) rs
+    ofRecord c i r (does c r) st ++ ofRecords c (suc i) (after c r (does c r) st) rs
 
 -- 3: the value rows from number i on
 unfoldable pub ofMasks : ℕ → List (List ℕ) → List Check
 ofMasks i [] = []
-ofMasks i (row ∷ rows) = check 3 i (ltb 63 (mask row)) ∷ ofMasks (suc i) rows
+ofMasks i (row ∷ rows) = check 3 i (ltb maskLimit (mask row)) ∷ ofMasks (suc i) rows
 
 -- 1 to 3 are tested over the whole call first, then the records from 0, with the stack empty.
-unfoldable pub checks : Setting → List ℕ → List Check
+unfoldable pub checks : Call → List ℕ → List Check
 checks c records =
-    check 1 0 (ltb 65536 (c .size)) ∷
-    check 1 1 (ltb 49152 (length records)) ∷
-    check 1 2 (ltb 57344 (length (c .values))) ∷
-    check 2 1 (not (eqb (length records % 24) 0)) ∷
-    check 2 2 (not (eqb (length (c .values) % 56) 0)) ∷
-    ofMasks 0 (rowsOf c) ++
-    ofRecords c 0 [] (recordsOf records)
+    check 1 0 (ltb sectionLimit (c .setting .size)) ∷
+    check 1 1 (ltb (c .setting .card .recordsLimit) (length records)) ∷
+    check 1 2 (ltb valuesLimit (length (c .values))) ∷
+    check 2 1 (not (eqb (length records % c .setting .card .recordBytes) 0)) ∷
+    check 2 2 (not (eqb (length (c .values) % rowBytes) 0)) ∷
+    ofMasks 0 (rowsOf (c .values)) ++
+    ofRecords (c .setting) 0 [] (recordsOf c records)

@@ -6,9 +6,9 @@ use mathlib.Core.List.{List, [], _∷_, _++_}
 use lib.Dec.{eqb, ltb, leb}
 use lib.ListN.{length, take, drop}
 use Rattle.meaning.specs.Numbers.{cut}
-use Rattle.meaning.specs.Call.{Setting}
-use Rattle.meaning.specs.Checks.{Answer, answer, Check, check, first}
-use Rattle.meaning.specs.Patch.{setting, answerOf, sectionOf}
+use Rattle.meaning.specs.Call.{card64, rowBytes, Call}
+use Rattle.meaning.specs.Checks.{Answer, answer, Check, check, first, sectionLimit, valuesLimit}
+use Rattle.meaning.specs.Patch.{call, answerOf, sectionOf}
 
 -- ---- lines of hexadecimal
 
@@ -61,8 +61,8 @@ unfoldable pub sized : ℕ → ℕ → Bool
 sized k n =
     cond (eqb k 1) (eqb n 16)
     (cond (eqb k 2) (leb 1 n && leb n 64)
-    (cond (eqb k 3) (eqb n 56)
-    (cond (eqb k 4) (eqb n 24) false)))
+    (cond (eqb k 3) (eqb n rowBytes)
+    (cond (eqb k 4) (eqb n (card64 .recordBytes)) false)))
 
 -- One 01 first, kinds never falling: a kind after the last one, which is 0 before the first.
 unfoldable pub follows : ℕ → ℕ → Bool
@@ -99,9 +99,9 @@ added line got =
 unfoldable pub ofLine : ℕ → ℕ → List ℕ → Input → List Check
 ofLine i last line got =
     check 17 i (not (wellFormed last line)) ∷
-    check 1 0 (ltb 65536 (length (added line got .section))) ∷
-    check 1 1 (ltb (2048 * 24) (length (added line got .records))) ∷
-    check 1 2 (ltb (1024 * 56) (length (added line got .values))) ∷
+    check 1 0 (ltb sectionLimit (length (added line got .section))) ∷
+    check 1 1 (ltb (card64 .recordsLimit) (length (added line got .records))) ∷
+    check 1 2 (ltb valuesLimit (length (added line got .values))) ∷
     []
 
 -- What was read: the refusal, number 0 for none, and what the frames before it gave.
@@ -154,8 +154,8 @@ written a section =
     (digits 2 255 ++ (digits 2 (a .number) ++ (digits 8 (a .place) ++ line-feed)))
 
 -- The answer to what was read is its refusal, or that of the patch.
-abbrev pub callOf : Input → Setting
-callOf i = setting (i .section) (i .values) (i .address) (i .gp)
+abbrev pub callOf : Input → Call
+callOf i = call (i .section) (i .values) (i .address) (i .gp)
 
 abbrev pub replyTo : Reading → Answer
 replyTo r = cond (eqb (r .refusal .number) 0) (answerOf (callOf (r .input)) (r .input .records)) (r .refusal)

@@ -5,22 +5,21 @@ use mathlib.Core.List.{List, [], _∷_, _++_}
 use mathlib.Core.Path.{_≡_}
 use lib.Dec.{eqb, ltb}
 use lib.ListN.{length, getD}
-use Rattle.meaning.specs.Table.{semantics}
-use Rattle.meaning.specs.Call.{Setting, Record, recordsOf}
+use Rattle.meaning.specs.Call.{Setting, Call, Record, does, recordsOf}
 use Rattle.meaning.specs.Stack.{Stack, after}
 use Rattle.meaning.specs.Checks.{writes}
 
 -- The stack after a list of records.
 unfoldable pub run : Setting → Stack → List Record → Stack
 run c st [] = st
-run c st (r ∷ rs) = run c (after c r (semantics (r .type)) st) rs
+run c st (r ∷ rs) = run c (after c r (does c r) st) rs
 
 -- A group is the bytes of whole records that, run from an empty stack, end with an empty stack.
-pub record Group (c : Setting) (bytes : List ℕ) : Type 0 where
-  pub whole : length bytes % 24 ≡ 0
-  pub balanced : run c [] (recordsOf bytes) ≡ []
+pub record Group (c : Call) (bytes : List ℕ) : Type 0 where
+  pub whole : length bytes % c .setting .card .recordBytes ≡ 0
+  pub balanced : run (c .setting) [] (recordsOf c bytes) ≡ []
 
-abbrev pub Groups : Setting → List (List ℕ) → Type 0
+abbrev pub Groups : Call → List (List ℕ) → Type 0
 Groups c [] = Unit {0}
 Groups c (g ∷ gs) = Group c g × Groups c gs
 
@@ -30,22 +29,22 @@ joined [] = []
 joined (g ∷ gs) = g ++ joined gs
 
 -- Two records write a common byte. A word type counts as writing all four bytes of its word.
-abbrev pub common : Record → Record → Bool
-common r q =
-    not (eqb (writes (semantics (r .type))) 0) && not (eqb (writes (semantics (q .type))) 0) &&
-    ltb (r .offset) (q .offset + writes (semantics (q .type))) && ltb (q .offset) (r .offset + writes (semantics (r .type)))
+abbrev pub common : Setting → Record → Record → Bool
+common c r q =
+    not (eqb (writes (does c r)) 0) && not (eqb (writes (does c q)) 0) &&
+    ltb (r .offset) (q .offset + writes (does c q)) && ltb (q .offset) (r .offset + writes (does c r))
 
-unfoldable pub commonWith : Record → List Record → Bool
-commonWith r [] = false
-commonWith r (q ∷ qs) = common r q || commonWith r qs
+unfoldable pub commonWith : Setting → Record → List Record → Bool
+commonWith c r [] = false
+commonWith c r (q ∷ qs) = common c r q || commonWith c r qs
 
-unfoldable pub commonByte : List Record → List Record → Bool
-commonByte [] qs = false
-commonByte (r ∷ rs) qs = commonWith r qs || commonByte rs qs
+unfoldable pub commonByte : Setting → List Record → List Record → Bool
+commonByte c [] qs = false
+commonByte c (r ∷ rs) qs = commonWith c r qs || commonByte c rs qs
 
 -- The rule by which two groups may change places: they write no common byte.
-abbrev pub mayChange : List ℕ → List ℕ → Bool
-mayChange g h = not (commonByte (recordsOf g) (recordsOf h))
+abbrev pub mayChange : Call → List ℕ → List ℕ → Bool
+mayChange c g h = not (commonByte (c .setting) (recordsOf c g) (recordsOf c h))
 
 -- An order is a list of group numbers. It names each of n groups once: n entries, each below n, and none a second time.
 unfoldable pub named : ℕ → List ℕ → Bool
@@ -64,14 +63,14 @@ abbrev pub group : List (List ℕ) → ℕ → List ℕ
 group gs k = getD gs k []
 
 -- Entry k may stand ahead of the entries after it: each of them that came before it may change places with it.
-unfoldable pub mayLead : List (List ℕ) → ℕ → List ℕ → Bool
-mayLead gs k [] = true
-mayLead gs k (j ∷ js) = (not (ltb j k) || mayChange (group gs j) (group gs k)) && mayLead gs k js
+unfoldable pub mayLead : Call → List (List ℕ) → ℕ → List ℕ → Bool
+mayLead c gs k [] = true
+mayLead c gs k (j ∷ js) = (not (ltb j k) || mayChange c (group gs j) (group gs k)) && mayLead c gs k js
 
 -- Of any two groups that may not change places, the one that came first still comes first.
-unfoldable pub keepsOrder : List (List ℕ) → List ℕ → Bool
-keepsOrder gs [] = true
-keepsOrder gs (k ∷ ks) = mayLead gs k ks && keepsOrder gs ks
+unfoldable pub keepsOrder : Call → List (List ℕ) → List ℕ → Bool
+keepsOrder c gs [] = true
+keepsOrder c gs (k ∷ ks) = mayLead c gs k ks && keepsOrder c gs ks
 
 -- The groups in an order.
 unfoldable pub rearranged : List (List ℕ) → List ℕ → List (List ℕ)

@@ -6,9 +6,10 @@ use lib.Dec.{eqb, ltb}
 use lib.IntN.{ℤ, pos, negsuc}
 use lib.ListN.{length, take, drop}
 use Rattle.meaning.specs.Numbers.{number, plus, signed}
-use Rattle.meaning.specs.Table.{Semantics, unnamed, idle, loaders, push, operation, word, bytes, Part, Accepted, from_to_, signed-multiple-of-4, any, semantics}
+use Rattle.meaning.specs.Table.{Semantics, unnamed, idle, loaders, push, operation, word, bytes, Part, Accepted, from_to_, signed-multiple-of-4, any}
+use Rattle.meaning.specs.Call.{Card, semanticsOn}
 use Rattle.meaning.specs.Field.{wide, lowest, bare}
-use Rattle.meaning.specs.Checks.{Answer, answer, Check, check, first, ofWord, outside, unaligned}
+use Rattle.meaning.specs.Checks.{Answer, answer, Check, check, first, sectionLimit, ofWord, outside, unaligned}
 
 -- A number of refusal, its place, and the value: 0 on refusal.
 pub record Immediate : Type 0 where
@@ -17,12 +18,12 @@ pub record Immediate : Type 0 where
   pub value : ℤ
 
 -- The checks of read back, in its order; the place is always 0.
-abbrev pub backChecks : ℕ → ℕ → ℕ → ℕ → Semantics → List Check
-backChecks w size address offset does =
-    check 1 0 (ltb 65536 size) ∷
+abbrev pub backChecks : Card → ℕ → ℕ → ℕ → Semantics → List Check
+backChecks card size address offset does =
+    check 1 0 (ltb sectionLimit size) ∷
     check 4 0 (not (ofWord does (λ source range. true))) ∷
     check 8 0 (outside size offset 4) ∷
-    check 9 0 (unaligned (plus w address offset)) ∷
+    check 9 0 (unaligned (plus (card .width) address offset)) ∷
     []
 
 -- A field's value, its low zeros restored: signed where the accepted range has negative numbers. With no range, the bare field.
@@ -44,8 +45,8 @@ valueBack (bytes way n f) held = pos 0
 abbrev pub immediate : Answer → ℤ → Immediate
 immediate a z = record { number = a .number; place = a .place; value = cond (eqb (a .number) 0) z (pos 0) }
 
--- Read back of the word at an offset, with the width of addresses.
-abbrev pub readBackOf : ℕ → List ℕ → ℕ → ℕ → ℕ → Immediate
-readBackOf w section address offset type =
-    immediate (first (backChecks w (length section) address offset (semantics type)) (answer 0 0))
-    (valueBack (semantics type) (number (take 4 (drop offset section))))
+-- Read back of the word at an offset, on a card.
+abbrev pub readBackOf : Card → List ℕ → ℕ → ℕ → ℕ → Immediate
+readBackOf card section address offset type =
+    immediate (first (backChecks card (length section) address offset (semanticsOn card type)) (answer 0 0))
+    (valueBack (semanticsOn card type) (number (take 4 (drop offset section))))

@@ -64,8 +64,8 @@ abbrev pub pushed : Setting → Record → Semantics → Stack → Stack
 pushed c r unnamed st = []
 pushed c r idle st = []
 pushed c r loaders st = []
-pushed c r (push f) st = signed (c .width) (formula c r f) ∷ []
-pushed c r (operation o) st = pushes (c .width) o (entry st 0) (entry st 1) (entry st 2)
+pushed c r (push f) st = signed (c .card .width) (formula c r f) ∷ []
+pushed c r (operation o) st = pushes (c .card .width) o (entry st 0) (entry st 1) (entry st 2)
 pushed c r (word source parts range) st = []
 pushed c r (bytes way n f) st = []
 

@@ -1,4 +1,4 @@
--- Table 10 of the psABI 2.01 (document 000), as document 01 reads it: what each relocation type does, as data, row by row in its order.
+-- Table 10 of the psABI 2.01 (document 000), as document 01 reads it: what each relocation type does, as data, line by line in its order.
 use Prim.Native.Nat.{ℕ}
 use mathlib.Core.Bool.{cond}
 use mathlib.Core.List.{List, [], _∷_}
@@ -67,8 +67,8 @@ pub data Semantics : Type 0 where
   word : Source → List Part → Accepted → Semantics
   bytes : Way → ℕ → Formula → Semantics
 
-pub data Row : Type 0 where
-  type : ℕ → Semantics → Row
+pub data Named : Type 0 where
+  type : ℕ → Semantics → Named
 
 abbrev pub neg : ℕ → ℤ
 neg n = negℤ (pos n)
@@ -86,7 +86,7 @@ abbrev pub 64-LO20 : List Part
 abbrev pub 64-HI12 : List Part
 64-HI12 = bits 63 ⋯ 52 to 21 ⋯ 10 ∷ []
 
-unfoldable pub table : List Row
+unfoldable pub table : List Named
 table =
     -- R_LARCH_NONE
     type 0 idle ∷
@@ -268,10 +268,10 @@ table =
     type 100 idle ∷
     []
 
--- The row of a type, or `unnamed`.
-unfoldable pub look : List Row → ℕ → Semantics
+-- What the table says of a type, or `unnamed`.
+unfoldable pub look : List Named → ℕ → Semantics
 look [] t = unnamed
-look (type n does ∷ rows) t = cond (eqb n t) does (look rows t)
+look (type n does ∷ more) t = cond (eqb n t) does (look more t)
 
 abbrev pub semantics : ℕ → Semantics
 semantics t = look table t

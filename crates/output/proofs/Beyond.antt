@@ -1,5 +1,5 @@
--- An input's first 550,055 bytes decide its output. The longest good input has 549,923: the 01 line of 35, each section byte in a line of its
--- own of 5, 1,024 rows of 115 and 2,048 records of 51. Of a line that begins after those, 132 bytes are enough: none so long is a frame.
+-- An input's first bytes decide its output, so many as `inputBytes` says: no good line begins after those of the longest good input, and no
+-- line that is longer than the longest is a frame.
 use Prim.Native.Nat.{ℕ, zero, suc, _+_, _-_, _*_, _/_, _≤_, _<_}
 use native.Mathlib.Nat.{not-suc-le-zero, le-of-suc-le-suc}
 use native.Mathlib.Omega.{arith}
@@ -11,11 +11,14 @@ use borrow.Author.Tests.{ltb-true, ltb-false}
 use lib.Dec.{eqb, ltb}
 use lib.ListN.{length, take, drop, length-append, length-drop}
 use lib.Seq.{take-nil, take-take, length-take-le}
-use Rattle.meaning.specs.Checks.{answer}
+use Rattle.meaning.specs.Call.{card64, rowBytes}
+use Rattle.meaning.specs.Checks.{answer, sectionLimit, valuesLimit}
 use Rattle.meaning.specs.Frames.{linesOf, kind, body, wellFormed, Input, nothing, added, reading, readingOf, outputFor, outputOf}
 use Rattle.frames.specs.Text.{lineLength}
+use Rattle.frames.specs.Gathered.{Within}
 use Rattle.frames.proofs.Laws.{first-line}
-use Rattle.frames.proofs.Reader.{Sizes, one, two, three, four, bounds, Frame, frame, past, bad-line, good-line, length-own, Within, within}
+use Rattle.frames.proofs.Reader.{Sizes, one, two, three, four, bounds, Frame, frame, past, bad-line, good-line, length-own, within}
+use Rattle.output.specs.Text.{lineOf, tooLong, inputBytes}
 
 -- ---- the first line of a part
 
@@ -57,8 +60,8 @@ drop-of-take (suc k) n [] = ap (drop (suc k)) (take-nil {A = ℕ} n) ∙ sym (ta
 drop-of-take (suc k) zero (b ∷ s) = let e : 0 - suc k ≡ 0 = omega arith in rw e
 drop-of-take (suc k) (suc n) (b ∷ s) = let e : suc n - suc k ≡ n - k = omega arith in rw e (drop-of-take k n s)
 
--- no line of 132 bytes is a frame
-too-long : (last : ℕ) (line : List ℕ) → 132 ≤ length line → wellFormed last line ≡ false
+-- no line that is too long is a frame
+too-long : (last : ℕ) (line : List ℕ) → tooLong ≤ length line → wellFormed last line ≡ false
 too-long last line h = go (wellFormed last line) refl
   where
     go : (t : Bool) → wellFormed last line ≡ t → t ≡ false
@@ -69,10 +72,10 @@ too-long last line h = go (wellFormed last line) refl
 
 -- With x, y and z bytes read: room for a bytes of section, b rows and d records, and for the 01 line where none came, in n bytes.
 pub record Room (last x y z a b d n : ℕ) : Type 0 where
-  pub section : x + a ≡ 65536
-  pub values : y + 56 * b ≡ 57344
-  pub records : z + 24 * d ≡ 49152
-  pub enough : cond (eqb last 0) 35 0 + 5 * a + 115 * b + 51 * d + 132 ≤ n
+  pub section : x + a ≡ sectionLimit
+  pub values : y + rowBytes * b ≡ valuesLimit
+  pub records : z + card64 .recordBytes * d ≡ card64 .recordsLimit
+  pub enough : cond (eqb last 0) (lineOf 16) 0 + lineOf 1 * a + lineOf rowBytes * b + lineOf (card64 .recordBytes) * d + tooLong ≤ n
 
 -- a frame of m bytes, in a line of u digits, takes its own room
 room-after : (last k u m x y z x' y' z' a b d n : ℕ) → Sizes k m → (k ≡ 1 → last ≡ 0) → u ≡ 2 * m + 2 →
@@ -80,7 +83,7 @@ room-after : (last k u m x y z x' y' z' a b d n : ℕ) → Sizes k m → (k ≡ 
     Room k x' y' z' (a - cond (eqb k 2) m 0) (b - cond (eqb k 3) 1 0) (d - cond (eqb k 4) 1 0) (n - suc u)
 room-after last k u m x y z x' y' z' a b d n (one p q) f l e₁ e₂ e₃ w r =
     let zero-last : last ≡ 0 = f p in
-    let h : 35 + 5 * a + 115 * b + 51 * d + 132 ≤ n = rw zero-last at (r .enough) in
+    let h = rw zero-last at (r .enough) in
     let e₁ : x' ≡ x + 0 = rw p at e₁ in
     let e₂ : y' ≡ y + 0 = rw p at e₂ in
     let e₃ : z' ≡ z + 0 = rw p at e₃ in
@@ -125,11 +128,11 @@ abbrev InRoom : ℕ → Input → ℕ → ℕ → ℕ → ℕ → Type 0
 InRoom last got a b d n = Room last (length (got .section)) (length (got .values)) (length (got .records)) a b d n
 
 -- a line that is long in both is bad in both
-both-long : (s t : List ℕ) (i last : ℕ) (got : Input) → 132 ≤ lineLength s → 132 ≤ lineLength t →
+both-long : (s t : List ℕ) (i last : ℕ) (got : Input) → tooLong ≤ lineLength s → tooLong ≤ lineLength t →
     reading i last got (linesOf s) ≡ reading i last got (linesOf t)
 both-long s t i last got h k = stops s h ∙ sym (stops t k)
   where
-    stops : (l : List ℕ) → 132 ≤ lineLength l → reading i last got (linesOf l) ≡ record { refusal = answer 17 i; input = got }
+    stops : (l : List ℕ) → tooLong ≤ lineLength l → reading i last got (linesOf l) ≡ record { refusal = answer 17 i; input = got }
     stops l h =
         let inside : lineLength l ≤ length l = line-inside l in
         let n : length (take (lineLength l) l) ≡ lineLength l = length-take-le (lineLength l) l inside in
@@ -196,19 +199,19 @@ module _ (s : List ℕ) (n i last : ℕ) (got : Input) (a b d : ℕ) (some : 0 <
       grown l mine = length-append l (cond (eqb (kind line) mine) (body line) []) ∙ ap (λ (x : ℕ). length l + x) (length-own (kind line) mine line)
 
   step : Same s n i last got
-  step = go (ltb u 132) refl
+  step = go (ltb u tooLong) refl
     where
-      go : (t : Bool) → ltb u 132 ≡ t → Same s n i last got
+      go : (t : Bool) → ltb u tooLong ≡ t → Same s n i last got
       go true e =
-          let short : u < 132 = ltb-true u 132 e in
+          let short : u < tooLong = ltb-true u tooLong e in
           let h = r .enough in
           rw (part-line n s some (omega arith), first-line s some)
           (after-line line (linesOf (take (n - suc u) (drop (suc u) s))) (linesOf (drop (suc u) s)) i last got
           (λ f o. rest (drop (suc u) s) (n - suc u) (suc i) (kind line) (added line got) _ _ _ (rw length-drop (omega arith)) (more-room f o)))
       go false e =
-          let long : 132 ≤ u = ltb-false u 132 e in
+          let long : tooLong ≤ u = ltb-false u tooLong e in
           let h = r .enough in
-          both-long (take n s) s i last got (long-in-part 132 n s long (omega arith)) long
+          both-long (take n s) s i last got (long-in-part tooLong n s long (omega arith)) long
 
 none-left : (s : List ℕ) (n i last : ℕ) (got : Input) → length s ≤ 0 → Same s n i last got
 none-left [] n i last got h = ap (λ (l : List ℕ). reading i last got (linesOf l)) (take-nil {A = ℕ} n)
@@ -226,10 +229,10 @@ part-reads (suc f) s n i last got a b d h r =
 
 -- ---- the law
 
-pub beyond : (s : List ℕ) (n : ℕ) → 550055 ≤ n → readingOf (take n s) ≡ readingOf s
+pub beyond : (s : List ℕ) (n : ℕ) → inputBytes ≤ n → readingOf (take n s) ≡ readingOf s
 beyond s n h =
-    part-reads (length s) s n 0 0 nothing 65536 1024 2048 (omega arith)
+    part-reads (length s) s n 0 0 nothing sectionLimit (valuesLimit / rowBytes) (card64 .recordsLimit / card64 .recordBytes) (omega arith)
     (record { section = refl; values = refl; records = refl; enough = omega arith })
 
-pub beyond-no-matter : (s : List ℕ) (n : ℕ) → 550055 ≤ n → outputOf (take n s) ≡ outputOf s
+pub beyond-no-matter : (s : List ℕ) (n : ℕ) → inputBytes ≤ n → outputOf (take n s) ≡ outputOf s
 beyond-no-matter s n h = ap outputFor (beyond s n h)

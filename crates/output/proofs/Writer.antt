@@ -12,10 +12,10 @@ use lib.ListN.{length, take, drop, getD, set, length-append, length-drop, take-a
 use lib.Pow.{pow-add}
 use lib.Seq.{drop-cons, drop-drop, take-all}
 use Rattle.meaning.specs.Numbers.{cut}
-use Rattle.meaning.specs.Checks.{answer}
+use Rattle.meaning.specs.Checks.{answer, sectionLimit}
 use Rattle.meaning.specs.Frames.{digitFor, digits, digitsOf, line-feed, frames02, sectionLines, written}
 use Rattle.frames.specs.Text.{laid}
-use Rattle.output.specs.Text.{frame02}
+use Rattle.output.specs.Text.{frame02, outputBytes}
 use Rattle.frames.proofs.Laws.{laid-none, laid-cons, laid-append, length-laid}
 
 -- ---- one write after another
@@ -180,7 +180,7 @@ lines-fit (suc m) s h =
     length-append (frame02 (take 64 s)) (frames02 (cut 64 m (drop 64 s))) in
     ap length (frames02-cons (take 64 s) (cut 64 m (drop 64 s))) ∙ all ∙ omega arith
 
-pub section-fits : (s : List ℕ) → length s ≤ 65536 → length (sectionLines s) ≤ 134144
+pub section-fits : (s : List ℕ) → length s ≤ sectionLimit → 11 + length (sectionLines s) ≤ outputBytes
 unfolding sectionLines
 section-fits s h = rw (lines-fit ((length s + 63) / 64) s (omega arith)) (omega arith)
 

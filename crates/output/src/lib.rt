@@ -3,10 +3,10 @@ ghost use mathlib.Core.List.{_++_};
 ghost use mathlib.Core.Path.{_≡_};
 ghost use Prim.Native.Nat.{_+_, _*_, _≤_, _<_};
 ghost use lib.ListN.{length, drop};
-ghost use Rattle.meaning.specs.Checks.{answer};
+ghost use Rattle.meaning.specs.Checks.{answer, sectionLimit};
 ghost use Rattle.meaning.specs.Frames as F;
 ghost use Rattle.frames.specs.Text.{laid};
-ghost use Rattle.output.specs.Text.{frame02};
+ghost use Rattle.output.specs.Text.{frame02, outputBytes};
 
 // The longest output: a first line of 11 bytes, and a full section's 1,024 lines of 131.
 pub const OUTPUT: usize = 134155;
@@ -75,10 +75,10 @@ fn piece_end(from: usize, len: usize) -> usize
     ensures { λ r. ⌜ (from < r) × (r ≤ from + 64) × (r ≤ len) ⌝ }
     ensures { λ r. ⌜ (r < from + 64 → r ≡ len) ⌝ }
 {
-    if len - from < 64 {
+    if len - from < frames::LINE {
         return len;
     }
-    from + 64
+    from + frames::LINE
 }
 
 // Writes the section as 02 lines of 64 bytes, the last shorter, and answers the place after them.
@@ -99,8 +99,8 @@ fn put_section(out: &mut [u8], at: usize, section: &[u8]) -> usize
 
 // Writes the program's output for an answer and a section into the front of `out`, and answers how long it is.
 pub fn write(section: &[u8], number: u32, place: u32, out: &mut [u8]) -> usize
-    requires { ⌜ length (now section) ≤ 65536 ⌝ }
-    requires { ⌜ length (now out) ≡ 134155 ⌝ }
+    requires { ⌜ length (now section) ≤ sectionLimit ⌝ }
+    requires { ⌜ length (now out) ≡ outputBytes ⌝ }
     ensures { λ r. ⌜ now (out .exit) ≡ F.written (answer number place) (now (section .entry)) ++ drop r (now (out .entry)) ⌝ }
     ensures { λ r. ⌜ r ≡ length (F.written (answer number place) (now (section .entry))) ⌝ }
 {

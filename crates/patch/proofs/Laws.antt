@@ -1,175 +1,174 @@
--- The loops, over plain lists: what holds before each row and before each record, and how a turn goes on.
-use Prim.Native.Nat.{ℕ, zero, suc, _+_, _-_, _*_, _/_, _≤_, _<_}
+-- The loops over the records, over plain lists: what holds before each record, and how a turn goes on.
+use Prim.Native.Nat.{ℕ, zero, suc, _+_, _-_, _/_, _≤_, _<_}
 use native.Mathlib.Numerals.{add-one}
 use native.Mathlib.Omega.{arith}
 use mathlib.Core.Bool.{true, false, cond}
 use mathlib.Core.List.{List, [], _∷_, map}
 use mathlib.Core.Path.{_≡_, refl, sym, ap, _∙_, subst, subst⁻¹}
-use borrow.Author.Tests.{lt-ltb, le-ltb, eq-eqb, ne-eqb}
-use lib.Dec.{ltb, eqb}
+use borrow.Author.Tests.{eq-eqb, ne-eqb}
+use lib.Dec.{eqb}
 use lib.IntN.{ℤ}
-use lib.ListN.{length, take, drop, length-map}
-use lib.Seq.{take-take}
-use Rattle.meaning.specs.Numbers.{number, cut, pieces}
-use Rattle.meaning.specs.Table.{Semantics, semantics}
-use Rattle.meaning.specs.Call.{Setting, Record, recordOf, recordsOf, u64}
-use Rattle.meaning.specs.Stack.{after}
-use Rattle.meaning.specs.Checks.{Answer, answer, first, ofMasks, ofRecord, ofRecords}
+use lib.ListN.{length, length-map}
+use Rattle.meaning.specs.Numbers.{cut}
+use Rattle.meaning.specs.Table.{Semantics}
+use Rattle.meaning.specs.Call.{Call, Setting, Record, card64, rowBytes, rowsOf, rowOf, symbolIn, does, recordWith, recordOf, recordsOf}
+use Rattle.meaning.specs.Stack.{depth, after}
+use Rattle.meaning.specs.Checks.{Answer, answer, first, ofRecord, ofRecords}
 use Rattle.meaning.specs.Patch.{effect, patched}
 use Rattle.lemmas.specs.First.{first-append}
-use Rattle.lemmas.specs.Pieces.{piece, piecesFrom, from-start, from-next, from-end, length-cut}
-use Rattle.stack.specs.Tops.{tops}
+use Rattle.lemmas.specs.Passed.{refusalOf}
+use Rattle.lemmas.specs.Pieces.{piece, piecesFrom, from-start, from-next, from-end, length-cut, length-piece}
+use Rattle.stack.specs.Tops.{tops, Fit, Holds}
 use Rattle.stack.specs.Laws.{tops-none, length-tops}
-use Rattle.steps.specs.Refusal.{refusalOf, first-record}
+use Rattle.values.proofs.Laws.{row-whole, row-none}
+use Rattle.records.specs.declared.Setting as R
+use Rattle.records.specs.Given.{seen}
+use Rattle.steps.specs.Step.{Ready}
+use Rattle.steps.specs.Refusal.{first-record}
+use Rattle.patch.specs.Answers.{recordsAnswer}
 
--- ---- the masks
+-- ---- a turn's record and its row
 
--- the masks from row i on answer as all do
-pub Masked : List ℕ → ℕ → Type 0
-Masked s i = first (ofMasks i (piecesFrom 56 s (length s / 56) i)) (answer 0 0) ≡ first (ofMasks 0 (pieces 56 s)) (answer 0 0)
+pub record-whole : (records rela : List ℕ) (i : ℕ) → i < length records / card64 .recordBytes → rela ≡ piece (card64 .recordBytes) records i → length rela ≡ card64 .recordBytes
+record-whole records rela i h e = ap length e ∙ length-piece (card64 .recordBytes) records i (omega arith)
 
-pub masked-start : (s : List ℕ) → Masked s 0
-unfolding Masked
-masked-start s = ap (λ (x : List (List ℕ)). first (ofMasks 0 x) (answer 0 0)) (from-start 56 s (length s / 56))
+-- What the code holds in a turn: the bytes of record i, and its row.
+pub record Turn (setting : R.Setting) (records values rela row : List ℕ) (i : ℕ) : Type 0 where
+  pub is : seen rela row ≡ recordOf card64 values (piece (card64 .recordBytes) records i)
+  pub ready : Ready setting rela row
 
-mask-at : (s : List ℕ) (i : ℕ) → u64 s (56 * i) ≡ u64 (piece 56 s i) 0
-mask-at s i = ap number (sym (take-take 8 56 (drop (56 * i) s) (omega arith)))
-
-module _ (s : List ℕ) (i : ℕ) (h : i < length s / 56) (m : Masked s i) where
-  turn : first (ofMasks i (piece 56 s i ∷ piecesFrom 56 s (length s / 56) (suc i))) (answer 0 0) ≡ first (ofMasks 0 (pieces 56 s)) (answer 0 0)
-  unfolding Masked
-  turn = ap (λ (x : List (List ℕ)). first (ofMasks i x) (answer 0 0)) (sym (from-next 56 s (length s / 56) i h)) ∙ m
-
-  pub masked-stops : (x : ℕ) → x ≡ u64 s (56 * i) → 63 < x → answer 3 i ≡ first (ofMasks 0 (pieces 56 s)) (answer 0 0)
-  unfolding ofMasks first
-  masked-stops x e k =
-      let t : ltb 63 (u64 (piece 56 s i) 0) ≡ true = lt-ltb 63 (u64 (piece 56 s i) 0) (subst (λ (y : ℕ). 63 < y) (e ∙ mask-at s i) k) in
-      rw t at turn
-
-  pub masked-next : (x : ℕ) → x ≡ u64 s (56 * i) → x ≤ 63 → Masked s (i + 1)
-  unfolding ofMasks first Masked
-  masked-next x e k =
-      let t : ltb 63 (u64 (piece 56 s i) 0) ≡ false = le-ltb 63 (u64 (piece 56 s i) 0) (subst (λ (y : ℕ). y ≤ 63) (e ∙ mask-at s i) k) in
-      subst⁻¹ (Masked s) (add-one i) (rw t at turn)
-
-pub masked-end : (s : List ℕ) (i : ℕ) → i ≡ length s / 56 → Masked s i → answer 0 0 ≡ first (ofMasks 0 (pieces 56 s)) (answer 0 0)
-unfolding Masked ofMasks first
-masked-end s i e m =
-    let none : piecesFrom 56 s (length s / 56) i ≡ [] =
-    subst⁻¹ (λ (j : ℕ). piecesFrom 56 s (length s / 56) j ≡ []) e (from-end 56 s (length s / 56)) in
-    ap (λ (x : List (List ℕ)). first (ofMasks i x) (answer 0 0)) (sym none) ∙ m
+pub turn : (setting : R.Setting) (records values rela row : List ℕ) (i symbol : ℕ) → setting .rows ≡ length values / rowBytes → i < length records / card64 .recordBytes →
+    rela ≡ piece (card64 .recordBytes) records i → symbol ≡ symbolIn card64 rela → row ≡ rowOf (rowsOf values) symbol → Turn setting records values rela row i
+turn setting records values rela row i symbol rows h e f g =
+    let its : row ≡ rowOf (rowsOf values) (symbolIn card64 rela) = g ∙ ap (rowOf (rowsOf values)) f in
+    record {
+      is = ap (recordWith card64 rela) its ∙ ap (recordOf card64 values) e;
+      ready =
+          record {
+            whole = record-whole records rela i h e;
+            whole-row = ap length its ∙ row-whole values (symbolIn card64 rela);
+            nothing = λ past. its ∙ row-none values (symbolIn card64 rela) (subst (λ (n : ℕ). n < symbolIn card64 rela) rows past);
+          };
+    }
 
 -- ---- the records
 
--- the records from number i on
-abbrev pub restOf : List ℕ → ℕ → List Record
-restOf records i = map recordOf (piecesFrom 24 records (length records / 24) i)
+module _ (c : Call) (records : List ℕ) where
+  abbrev size : ℕ
+  size = c .setting .card .recordBytes
 
--- the answer of a list that no check refuses
-abbrev pub accepted : List ℕ → Answer
-accepted records = answer 0 (length (recordsOf records))
+  abbrev number : ℕ
+  number = length records / size
 
--- Before record i, in either loop: the records from here on, with the stack that the earlier ones left, answer as all do.
-pub record Going (c : Setting) (records : List ℕ) (entries : List ℤ) (h i : ℕ) : Type 0 where
-  pub within : i ≤ length records / 24
-  pub long : length entries ≡ 16
-  pub low : h ≤ 16
-  pub answers : first (ofRecords c i (tops entries h) (restOf records i)) (accepted records) ≡ first (ofRecords c 0 [] (recordsOf records)) (accepted records)
+  -- record i, what it does, and the records from number i on
+  abbrev pub recordAt : ℕ → Record
+  recordAt i = recordOf (c .setting .card) (c .values) (piece size records i)
 
--- They leave in the section, as it is now, what all leave.
-abbrev pub Leaving : Setting → List ℕ → List ℕ → List ℕ → List ℤ → ℕ → ℕ → Type 0
-Leaving c records s₀ s entries h i = patched c (tops entries h) s (restOf records i) ≡ patched c [] s₀ (recordsOf records)
+  abbrev pub doing : ℕ → Semantics
+  doing i = does (c .setting) (recordAt i)
 
-module _ (c : Setting) (records : List ℕ) (entries : List ℤ) where
-  all : restOf records 0 ≡ recordsOf records
-  all = ap (map recordOf) (from-start 24 records (length records / 24))
+  abbrev restOf : ℕ → List Record
+  restOf i = map (recordOf (c .setting .card) (c .values)) (piecesFrom size records number i)
 
-  pub going-start : length entries ≡ 16 → Going c records entries 0 0
-  going-start e = record { within = omega arith; long = e; low = omega arith; answers = rw (all, tops-none entries) }
+  abbrev accepted : Answer
+  accepted = answer 0 (length (recordsOf c records))
 
-  pub leaving-start : (s : List ℕ) → Leaving c records s s entries 0 0
-  leaving-start s = rw (all, tops-none entries)
+  -- Before record i, in either loop: the records from here on, with the stack that the earlier ones left, answer as all do.
+  pub record Going (entries : List ℤ) (h i : ℕ) : Type 0 where
+    pub within : i ≤ number
+    pub fit : Fit entries h
+    pub answers : first (ofRecords (c .setting) i (tops entries h) (restOf i)) accepted ≡ recordsAnswer c records
 
-module _ (c : Setting) (records : List ℕ) (entries : List ℤ) (h i : ℕ) (more : i < length records / 24) where
-  abbrev r : Record
-  r = recordOf (piece 24 records i)
+  -- They leave in the section, as it is now, what all leave.
+  abbrev pub Leaving : List ℕ → List ℕ → List ℤ → ℕ → ℕ → Type 0
+  Leaving s₀ s entries h i = patched (c .setting) (tops entries h) s (restOf i) ≡ patched (c .setting) [] s₀ (recordsOf c records)
 
-  abbrev d : Semantics
-  d = semantics (r .type)
+  all : restOf 0 ≡ recordsOf c records
+  all = ap (map (recordOf (c .setting .card) (c .values))) (from-start size records number)
 
-  next : restOf records i ≡ recordOf (piece 24 records i) ∷ restOf records (suc i)
-  next = ap (map recordOf) (from-next 24 records (length records / 24) i more)
+  pub going-start : (entries : List ℤ) (h : ℕ) → length entries ≡ depth → h ≡ 0 → Going entries h 0
+  going-start entries h e z =
+      record {
+        within = omega arith;
+        fit = record { low = omega arith; long = e };
+        answers = rw (all, z, tops-none entries);
+      }
 
-  module _ (going : Going c records entries h i) where
-    -- the answer of all, by this record's refusal
-    here : cond (eqb (refusalOf c r d (tops entries h)) 0) (first (ofRecords c (suc i) (after c r d (tops entries h)) (restOf records (suc i))) (accepted records))
-        (answer (refusalOf c r d (tops entries h)) i) ≡ first (ofRecords c 0 [] (recordsOf records)) (accepted records)
-    unfolding ofRecords
-    here =
-        sym (first-record c i r d (tops entries h) (first (ofRecords c (suc i) (after c r d (tops entries h)) (restOf records (suc i))) (accepted records)))
-        ∙ sym (first-append (ofRecord c i r d (tops entries h)) (ofRecords c (suc i) (after c r d (tops entries h)) (restOf records (suc i))) (accepted records))
-        ∙ ap (λ (x : List Record). first (ofRecords c i (tops entries h) x) (accepted records)) (sym next)
-        ∙ going .answers
+  pub leaving-start : (entries : List ℤ) (h : ℕ) (s : List ℕ) → h ≡ 0 → Leaving s s entries h 0
+  leaving-start entries h s z = rw (all, z, tops-none entries)
 
-    pub stops-here : (n : ℕ) → n ≡ refusalOf c r d (tops entries h) → (n ≡ 0 → ⊥) → answer n i ≡ first (ofRecords c 0 [] (recordsOf records)) (accepted records)
-    stops-here n e z =
-        let k : eqb (refusalOf c r d (tops entries h)) 0 ≡ false = ne-eqb (refusalOf c r d (tops entries h)) 0 (λ q. z (e ∙ q)) in
-        ap (λ (m : ℕ). answer m i) e ∙ (rw k at here)
+  -- a turn at record i
+  module _ (entries : List ℤ) (h i : ℕ) (more : i < number) where
+    abbrev refusal : ℕ
+    refusal = refusalOf (c .setting) (recordAt i) (doing i) (tops entries h)
 
-    -- where no record is refused, this one is not
-    pub passes-here : first (ofRecords c 0 [] (recordsOf records)) (accepted records) .number ≡ 0 → refusalOf c r d (tops entries h) ≡ 0
-    passes-here judged = go (refusalOf c r d (tops entries h)) refl
-      where
-        go : (n : ℕ) → n ≡ refusalOf c r d (tops entries h) → refusalOf c r d (tops entries h) ≡ 0
-        go zero e = sym e
-        go (suc n) e =
-            let stopped : suc n ≡ 0 = ap (λ (a : Answer). a .number) (stops-here (suc n) e (λ q. omega arith)) ∙ judged in
-            absurd (omega arith)
+    abbrev next : List ℤ
+    next = after (c .setting) (recordAt i) (doing i) (tops entries h)
 
-    pub goes-on : (entries′ : List ℤ) (h′ : ℕ) → refusalOf c r d (tops entries h) ≡ 0 → tops entries′ h′ ≡ after c r d (tops entries h) →
-        length entries′ ≡ 16 → h′ ≤ 16 → Going c records entries′ h′ (i + 1)
-    goes-on entries′ h′ e t l k =
-        let q : eqb (refusalOf c r d (tops entries h)) 0 ≡ true = eq-eqb (refusalOf c r d (tops entries h)) 0 e in
-        subst⁻¹ (Going c records entries′ h′) (add-one i) (record { within = more; long = l; low = k; answers = rw t (rw q at here) })
+    one-more : restOf i ≡ recordAt i ∷ restOf (suc i)
+    one-more = ap (map (recordOf (c .setting .card) (c .values))) (from-next size records number i more)
 
-  -- the record's effect is one step of what all leave
-  pub leaves-on : (s₀ s s′ : List ℕ) (entries′ : List ℤ) (h′ : ℕ) → Leaving c records s₀ s entries h i → tops entries′ h′ ≡ after c r d (tops entries h) →
-      s′ ≡ effect c r d (tops entries h) s → Leaving c records s₀ s′ entries′ h′ (i + 1)
-  unfolding patched
-  leaves-on s₀ s s′ entries′ h′ leaving t w =
-      subst⁻¹ (Leaving c records s₀ s′ entries′ h′) (add-one i)
-      (rw (t, w) (ap (patched c (tops entries h) s) (sym next) ∙ leaving))
+    module _ (going : Going entries h i) where
+      -- the answer of all, by this record's refusal
+      here : cond (eqb refusal 0) (first (ofRecords (c .setting) (suc i) next (restOf (suc i))) accepted) (answer refusal i) ≡ recordsAnswer c records
+      unfolding ofRecords
+      here =
+          sym (first-record (c .setting) i (recordAt i) (doing i) (tops entries h) (first (ofRecords (c .setting) (suc i) next (restOf (suc i))) accepted))
+          ∙ sym (first-append (ofRecord (c .setting) i (recordAt i) (doing i) (tops entries h)) (ofRecords (c .setting) (suc i) next (restOf (suc i))) accepted)
+          ∙ ap (λ (x : List Record). first (ofRecords (c .setting) i (tops entries h) x) accepted) (sym one-more)
+          ∙ going .answers
 
--- ---- after the last record
+      pub stops-here : (n : ℕ) → n ≡ refusal → (n ≡ 0 → ⊥) → answer n i ≡ recordsAnswer c records
+      stops-here n e z = ap (λ (m : ℕ). answer m i) e ∙ (rw (ne-eqb refusal 0 (λ q. z (e ∙ q))) at here)
 
-pub length-records : (records : List ℕ) → length (recordsOf records) ≡ length records / 24
-length-records records = length-map (cut 24 (length records / 24) records) recordOf ∙ length-cut 24 (length records / 24) records
+      -- where no record is refused, this one is not
+      pub passes-here : recordsAnswer c records .number ≡ 0 → refusal ≡ 0
+      passes-here judged = go refusal refl
+        where
+          go : (n : ℕ) → n ≡ refusal → refusal ≡ 0
+          go zero e = sym e
+          go (suc n) e =
+              let stopped : suc n ≡ 0 = ap (λ (a : Answer). a .number) (stops-here (suc n) e (λ q. omega arith)) ∙ judged in
+              absurd (omega arith)
 
-module _ (c : Setting) (records : List ℕ) (entries : List ℤ) (h i : ℕ) (last : i ≡ length records / 24) where
-  none-left : restOf records i ≡ []
-  none-left =
-      subst⁻¹ (λ (j : ℕ). restOf records j ≡ []) last (ap (map recordOf) (from-end 24 records (length records / 24)))
+      pub goes-on : (entries′ : List ℤ) (h′ : ℕ) → refusal ≡ 0 → Holds next entries′ h′ → Going entries′ h′ (i + 1)
+      goes-on entries′ h′ e t =
+          subst⁻¹ (Going entries′ h′) (add-one i)
+          (record { within = more; fit = t .fit; answers = rw (t .is) (rw (eq-eqb refusal 0 e) at here) })
 
-  module _ (going : Going c records entries h i) where
-    at-end : first (ofRecords c i (tops entries h) []) (accepted records) ≡ first (ofRecords c 0 [] (recordsOf records)) (accepted records)
-    at-end = ap (λ (x : List Record). first (ofRecords c i (tops entries h) x) (accepted records)) (sym none-left) ∙ going .answers
+    -- the record's effect is one step of what all leave
+    pub leaves-on : (s₀ s s′ : List ℕ) (entries′ : List ℤ) (h′ : ℕ) → Leaving s₀ s entries h i → Holds next entries′ h′ →
+        s′ ≡ effect (c .setting) (recordAt i) (doing i) (tops entries h) s → Leaving s₀ s′ entries′ h′ (i + 1)
+    unfolding patched
+    leaves-on s₀ s s′ entries′ h′ leaving t w =
+        subst⁻¹ (Leaving s₀ s′ entries′ h′) (add-one i)
+        (rw (t .is, w) (ap (patched (c .setting) (tops entries h) s) (sym one-more) ∙ leaving))
 
-    pub ends-left : (h ≡ 0 → ⊥) → answer 16 (length records / 24) ≡ first (ofRecords c 0 [] (recordsOf records)) (accepted records)
-    unfolding ofRecords first
-    ends-left z =
-        let k : eqb (length (tops entries h)) 0 ≡ false = ne-eqb (length (tops entries h)) 0 (λ q. z (sym (length-tops entries h) ∙ q)) in
-        ap (answer 16) (sym last) ∙ (rw k at at-end)
+  -- ---- after the last record
 
-    pub ends-accepted : h ≡ 0 → answer 0 (length records / 24) ≡ first (ofRecords c 0 [] (recordsOf records)) (accepted records)
-    unfolding ofRecords first
-    ends-accepted z =
-        let k : eqb (length (tops entries h)) 0 ≡ true = eq-eqb (length (tops entries h)) 0 (length-tops entries h ∙ z) in
-        ap (answer 0) (sym (length-records records)) ∙ (rw k at at-end)
+  length-records : length (recordsOf c records) ≡ number
+  length-records = length-map (cut size number records) (recordOf (c .setting .card) (c .values)) ∙ length-cut size number records
 
-  pub ends-leaving : (s₀ s : List ℕ) → Leaving c records s₀ s entries h i → s ≡ patched c [] s₀ (recordsOf records)
-  unfolding patched
-  ends-leaving s₀ s leaving = ap (patched c (tops entries h) s) (sym none-left) ∙ leaving
+  module _ (entries : List ℤ) (h i : ℕ) (last : i ≡ number) where
+    none-left : restOf i ≡ []
+    none-left = subst⁻¹ (λ (j : ℕ). restOf j ≡ []) last (ap (map (recordOf (c .setting .card) (c .values))) (from-end size records number))
 
--- the part of the record bytes that a turn reads
-pub record-part : (records : List ℕ) (i : ℕ) → take (24 * i + 24 - 24 * i) (drop (24 * i) records) ≡ piece 24 records i
-record-part records i = let e : 24 * i + 24 - 24 * i ≡ 24 = omega arith in rw e
+    module _ (going : Going entries h i) where
+      at-end : first (ofRecords (c .setting) i (tops entries h) []) accepted ≡ recordsAnswer c records
+      at-end = ap (λ (x : List Record). first (ofRecords (c .setting) i (tops entries h) x) accepted) (sym none-left) ∙ going .answers
+
+      pub ends-left : (h ≡ 0 → ⊥) → answer 16 number ≡ recordsAnswer c records
+      unfolding ofRecords first
+      ends-left z =
+          let k : eqb (length (tops entries h)) 0 ≡ false = ne-eqb (length (tops entries h)) 0 (λ q. z (sym (length-tops entries h) ∙ q)) in
+          ap (answer 16) (sym last) ∙ (rw k at at-end)
+
+      pub ends-accepted : h ≡ 0 → answer 0 number ≡ recordsAnswer c records
+      unfolding ofRecords first
+      ends-accepted z =
+          let k : eqb (length (tops entries h)) 0 ≡ true = eq-eqb (length (tops entries h)) 0 (length-tops entries h ∙ z) in
+          ap (answer 0) (sym length-records) ∙ (rw k at at-end)
+
+    pub ends-leaving : (s₀ s : List ℕ) → Leaving s₀ s entries h i → s ≡ patched (c .setting) [] s₀ (recordsOf c records)
+    unfolding patched
+    ends-leaving s₀ s leaving = ap (patched (c .setting) (tops entries h) s) (sym none-left) ∙ leaving

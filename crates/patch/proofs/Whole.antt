@@ -6,16 +6,14 @@ use mathlib.Core.List.{List, [], _++_}
 use mathlib.Core.Path.{_≡_, refl, sym, ap, _∙_}
 use borrow.Author.Tests.{ltb-false, eq-eqb, ne-eqb}
 use lib.ListN.{length}
-use Rattle.meaning.specs.Numbers.{pieces}
-use Rattle.meaning.specs.Call.{recordsOf}
+use Rattle.meaning.specs.Call.{Call, card64, rowsOf, recordsOf}
 use Rattle.meaning.specs.Checks as C
-use Rattle.meaning.specs.Checks.{Check, answer, first, ofMasks, ofRecords, checks}
-use Rattle.meaning.specs.Patch.{setting, answerOf, patched}
+use Rattle.meaning.specs.Checks.{Check, answer, first, ofMasks, ofRecords, checks, valuesLimit}
+use Rattle.meaning.specs.Patch.{call, answerOf, patched}
 use Rattle.lemmas.specs.First.{Every, Passes, Numbered, first-append, first-passed, first-stops, masks-numbered, zero-passes}
 use Rattle.patch.specs.declared.Answer.{Answer}
 use Rattle.patch.specs.declared.Answer.the-variants.{Patched, Refused}
-use Rattle.patch.specs.Answers.{answerIn, refuses, Proper, Answers, Patches, limitChecks}
-use Rattle.patch.proofs.Laws.{accepted}
+use Rattle.patch.specs.Answers.{answerIn, refuses, Proper, Answers, Patches, limitChecks, recordsAnswer}
 
 -- ---- one list of checks, by what it answered
 
@@ -37,68 +35,81 @@ passes ks r z k a e = zero-passes ks z k (ap (λ (x : C.Answer). x .number) (sym
 numbered-limits : (s r v : ℕ) → Every Numbered (limitChecks s r v)
 numbered-limits s r v = omega arith
 
--- ---- the call
+-- ---- the call, stage by stage
 
-module _ (s records values : List ℕ) (address gp : ℕ) where
+-- What comes in.
+pub record Input : Type 0 where
+  pub section : List ℕ
+  pub records : List ℕ
+  pub values : List ℕ
+  pub address : ℕ
+  pub gp : ℕ
+
+module _ (i : Input) where
+  abbrev pub called : Call
+  called = call (i .section) (i .values) (i .address) (i .gp)
+
   abbrev limitsOf : List Check
-  limitsOf = limitChecks (length s) (length records) (length values)
+  limitsOf = limitChecks (length (i .section)) (length (i .records)) (length (i .values))
 
   abbrev masksOf : List Check
-  masksOf = ofMasks 0 (pieces 56 values)
+  masksOf = ofMasks 0 (rowsOf (i .values))
 
-  abbrev recordsAnswer : C.Answer
-  recordsAnswer = first (ofRecords (setting s values address gp) 0 [] (recordsOf records)) (accepted records)
+  -- What the call comes to, by its answer and what it leaves.
+  abbrev pub Comes : Answer → List ℕ → Type 0
+  Comes r left = Patches (i .section) (i .records) (i .values) (i .address) (i .gp) r left
 
-  whole : answerOf (setting s values address gp) records ≡ first limitsOf (first masksOf recordsAnswer)
+  whole : answerOf called (i .records) ≡ first limitsOf (first masksOf (recordsAnswer called (i .records)))
   unfolding checks
   whole =
-      first-append limitsOf (masksOf ++ ofRecords (setting s values address gp) 0 [] (recordsOf records)) (accepted records)
-      ∙ ap (first limitsOf) (first-append masksOf (ofRecords (setting s values address gp) 0 [] (recordsOf records)) (accepted records))
+      first-append limitsOf (masksOf ++ ofRecords (called .setting) 0 [] (recordsOf called (i .records))) _
+      ∙ ap (first limitsOf) (first-append masksOf (ofRecords (called .setting) 0 [] (recordsOf called (i .records))) _)
 
   -- a refused call leaves the section
-  refused : (r : Answer) → Proper r → refuses r ≡ true → answerIn r ≡ answerOf (setting s values address gp) records →
-      Patches s records values address gp r s
+  refused : (r : Answer) → Proper r → refuses r ≡ true → answerIn r ≡ answerOf called (i .records) → Comes r (i .section)
   refused r p e is =
-      let number : answerOf (setting s values address gp) records .number ≡ 0 → ⊥ = λ q. some r p e (ap (λ (x : C.Answer). x .number) is ∙ q) in
-      record { answers = record { says = is; proper = p }; leaves = rw (ne-eqb (answerOf (setting s values address gp) records .number) 0 number) }
+      let number : answerOf called (i .records) .number ≡ 0 → ⊥ = λ q. some r p e (ap (λ (x : C.Answer). x .number) is ∙ q) in
+      record { answers = record { says = is; proper = p }; leaves = rw (ne-eqb (answerOf called (i .records) .number) 0 number) }
 
-  module _ (r : Answer) (limited : Answers r (first limitsOf (answer 0 0))) where
-    pub limits-refuse : refuses r ≡ true → Patches s records values address gp r s
-    limits-refuse e = refused r (limited .proper) e (stopped limitsOf r limited e _ ∙ sym whole)
+  pub limits-refuse : (r : Answer) → Answers r (first limitsOf (answer 0 0)) → refuses r ≡ true → Comes r (i .section)
+  limits-refuse r limited e = refused r (limited .proper) e (stopped limitsOf r limited e _ ∙ sym whole)
 
-    module _ (e : refuses r ≡ false) where
-      limits-pass : Every Passes limitsOf
-      limits-pass = passes limitsOf r (answer 0 0) (numbered-limits (length s) (length records) (length values)) limited e
+  -- The lengths passed.
+  pub record Limited : Type 0 where
+    pub few-records : length (i .records) ≤ card64 .recordsLimit
+    pub few-values : length (i .values) ≤ valuesLimit
+    pub first-two : (rest : C.Answer) → first limitsOf rest ≡ rest
 
-      pub few-records : length records ≤ 49152
-      few-records = ltb-false 49152 (length records) (limits-pass .1 .0)
+  pub limits-pass : (r : Answer) → Answers r (first limitsOf (answer 0 0)) → refuses r ≡ false → Limited
+  limits-pass r limited e = go (passes limitsOf r (answer 0 0) (numbered-limits (length (i .section)) (length (i .records)) (length (i .values))) limited e)
+    where
+      go : Every Passes limitsOf → Limited
+      go (a, (b, (c, rest))) =
+          record {
+            few-records = ltb-false (card64 .recordsLimit) (length (i .records)) b;
+            few-values = ltb-false valuesLimit (length (i .values)) c;
+            first-two = λ next. first-passed limitsOf next (a, (b, (c, rest)));
+          }
 
-      pub few-values : length values ≤ 57344
-      few-values = ltb-false 57344 (length values) (limits-pass .1 .1 .0)
+  module _ (limited : Limited) (q : Answer) (masked : Answers q (first masksOf (answer 0 0))) where
+    pub masks-refuse : refuses q ≡ true → Comes q (i .section)
+    masks-refuse f = refused q (masked .proper) f (stopped masksOf q masked f _ ∙ sym (whole ∙ limited .first-two _))
 
-      module _ (q : Answer) (masked : Answers q (first masksOf (answer 0 0))) where
-        pub masks-refuse : refuses q ≡ true → Patches s records values address gp q s
-        masks-refuse f = refused q (masked .proper) f (stopped masksOf q masked f _ ∙ sym (whole ∙ first-passed limitsOf _ limits-pass))
+    -- The masks passed too: the records answer.
+    pub masks-pass : refuses q ≡ false → answerOf called (i .records) ≡ recordsAnswer called (i .records)
+    masks-pass f =
+        whole ∙ limited .first-two _ ∙ first-passed masksOf _ (passes masksOf q (answer 0 0) (masks-numbered 0 (rowsOf (i .values))) masked f)
 
-        module _ (f : refuses q ≡ false) (j : Answer) (judged : Answers j recordsAnswer) where
-          answer-is : answerIn j ≡ answerOf (setting s values address gp) records
-          answer-is =
-              judged .says
-              ∙ sym (whole
-              ∙ first-passed limitsOf _ limits-pass
-              ∙ first-passed masksOf _ (passes masksOf q (answer 0 0) (masks-numbered 0 (pieces 56 values)) masked f))
+  module _ (answers : answerOf called (i .records) ≡ recordsAnswer called (i .records)) (j : Answer) (judged : Answers j (recordsAnswer called (i .records))) where
+    pub records-refuse : refuses j ≡ true → Comes j (i .section)
+    records-refuse g = refused j (judged .proper) g (judged .says ∙ sym answers)
 
-          pub records-refuse : refuses j ≡ true → Patches s records values address gp j s
-          records-refuse g = refused j (judged .proper) g answer-is
+    pub judged-zero : refuses j ≡ false → recordsAnswer called (i .records) .number ≡ 0
+    judged-zero g = ap (λ (x : C.Answer). x .number) (sym (judged .says)) ∙ none j g
 
-          pub judged-zero : refuses j ≡ false → recordsAnswer .number ≡ 0
-          judged-zero g = ap (λ (x : C.Answer). x .number) (sym (judged .says)) ∙ none j g
-
-          pub records-accepted : refuses j ≡ false → (t : List ℕ) → t ≡ patched (setting s values address gp) [] s (recordsOf records) →
-              Patches s records values address gp j t
-          records-accepted g t e =
-              record {
-                answers = record { says = answer-is; proper = judged .proper };
-                leaves = rw (eq-eqb (answerOf (setting s values address gp) records .number) 0
-                    (ap (λ (x : C.Answer). x .number) (sym answer-is) ∙ none j g)) e;
-              }
+    pub records-accepted : refuses j ≡ false → (t : List ℕ) → t ≡ patched (called .setting) [] (i .section) (recordsOf called (i .records)) → Comes j t
+    records-accepted g t e =
+        record {
+          answers = record { says = judged .says ∙ sym answers; proper = judged .proper };
+          leaves = rw (eq-eqb (answerOf called (i .records) .number) 0 (ap (λ (x : C.Answer). x .number) answers ∙ judged-zero g)) e;
+        }

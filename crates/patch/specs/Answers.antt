@@ -4,9 +4,11 @@ use mathlib.Core.Bool.{Bool, true, false, not}
 use mathlib.Core.List.{List, [], _∷_}
 use mathlib.Core.Path.{_≡_}
 use lib.Dec.{eqb, ltb}
+use lib.ListN.{length}
+use Rattle.meaning.specs.Call.{Call, card64, rowBytes, recordsOf}
 use Rattle.meaning.specs.Checks as C
-use Rattle.meaning.specs.Checks.{answer, check}
-use Rattle.meaning.specs.Patch.{setting, answerOf, sectionOf}
+use Rattle.meaning.specs.Checks.{answer, check, first, ofRecords, sectionLimit, valuesLimit}
+use Rattle.meaning.specs.Patch.{call, answerOf, sectionOf}
 use Rattle.patch.specs.declared.Answer.{Answer}
 use Rattle.patch.specs.declared.Answer.the-variants.{Patched, Refused}
 
@@ -32,15 +34,19 @@ pub record Answers (r : Answer) (a : C.Answer) : Type 0 where
 
 -- What a call of patch comes to: its answer, and what it leaves in the section.
 pub record Patches (section records values : List ℕ) (address gp : ℕ) (r : Answer) (left : List ℕ) : Type 0 where
-  pub answers : Answers r (answerOf (setting section values address gp) records)
-  pub leaves : left ≡ sectionOf (setting section values address gp) records section
+  pub answers : Answers r (answerOf (call section values address gp) records)
+  pub leaves : left ≡ sectionOf (call section values address gp) records section
 
 -- The checks of the call's lengths, 1 and 2, as the meaning's list begins.
 abbrev pub limitChecks : ℕ → ℕ → ℕ → List C.Check
 limitChecks section records values =
-    check 1 0 (ltb 65536 section) ∷
-    check 1 1 (ltb 49152 records) ∷
-    check 1 2 (ltb 57344 values) ∷
-    check 2 1 (not (eqb (records % 24) 0)) ∷
-    check 2 2 (not (eqb (values % 56) 0)) ∷
+    check 1 0 (ltb sectionLimit section) ∷
+    check 1 1 (ltb (card64 .recordsLimit) records) ∷
+    check 1 2 (ltb valuesLimit values) ∷
+    check 2 1 (not (eqb (records % card64 .recordBytes) 0)) ∷
+    check 2 2 (not (eqb (values % rowBytes) 0)) ∷
     []
+
+-- The answer of the records' checks, where those of the call passed.
+abbrev pub recordsAnswer : Call → List ℕ → C.Answer
+recordsAnswer c records = first (ofRecords (c .setting) 0 [] (recordsOf c records)) (answer 0 (length (recordsOf c records)))

@@ -1,24 +1,21 @@
 // Patch: the whole list is judged, in the order of the checks, before the first byte is written.
+use records::Setting;
+use sizes::*;
+use stack::Judged;
 use stack::Stack;
-use steps::Record;
-use steps::Setting;
+use values::Masks;
 ghost use mathlib.Core.Path.{_≡_};
 ghost use mathlib.Core.List.{[]};
 ghost use Prim.Native.Nat.{_/_, _≤_, _<_};
 ghost use lib.ListN.{length};
-ghost use Rattle.meaning.specs.Numbers.{pieces};
-ghost use Rattle.meaning.specs.Call.{recordOf, recordsOf};
+ghost use Rattle.meaning.specs.Call as M;
+ghost use Rattle.meaning.specs.Call.{card64, rowBytes, rowsOf};
 ghost use Rattle.meaning.specs.Checks as C;
-ghost use Rattle.meaning.specs.Patch.{patched};
+ghost use Rattle.meaning.specs.Patch as P;
 ghost use Rattle.lemmas.specs.Pieces.{piece};
-ghost use Rattle.table.specs.Columns.{lines};
-ghost use Rattle.steps.specs.Step.{asRecord, given};
-ghost use Rattle.patch.specs.Answers.{refuses, Answers, Patches, limitChecks};
-
-// A record is 24 bytes, a value row 56.
-const RECORD: usize = 24;
-
-const ROW: usize = 56;
+ghost use Rattle.values.specs.Values.{fixedRows};
+ghost use Rattle.records.specs.Given.{asSetting, given};
+ghost use Rattle.patch.specs.Answers.{refuses, Answers, Patches, limitChecks, recordsAnswer};
 
 // Patched, with the number of records, or a number of refusal and its place.
 pub enum Answer {
@@ -41,13 +38,13 @@ impl Answer {
 fn limits(section: usize, records: usize, values: usize) -> Answer
     ensures { λ r. ⌜ Answers r (C.first (limitChecks section records values) (C.answer 0 0)) ⌝ }
 {
-    if section > 65536 {
+    if section > SECTION_LIMIT {
         return Answer::Refused(1, 0);
     }
-    if records > 49152 {
+    if records > RECORDS_LIMIT {
         return Answer::Refused(1, 1);
     }
-    if values > 57344 {
+    if values > VALUES_LIMIT {
         return Answer::Refused(1, 2);
     }
     if records % RECORD != 0 {
@@ -61,36 +58,30 @@ fn limits(section: usize, records: usize, values: usize) -> Answer
 
 // Refusal 3: the first row whose mask is above 63.
 fn masks(values: &[u8]) -> Answer
-    requires { ⌜ length (now values) ≤ 57344 ⌝ }
-    ensures { λ r. ⌜ Answers r (C.first (C.ofMasks 0 (pieces 56 (now (values .entry)))) (C.answer 0 0)) ⌝ }
+    requires { ⌜ length (now values) ≤ C.valuesLimit ⌝ }
+    ensures { λ r. ⌜ Answers r (C.first (C.ofMasks 0 (rowsOf (now (values .entry)))) (C.answer 0 0)) ⌝ }
 {
-    let rows = values.len() / ROW;
-    let mut i = 0;
-    while i < rows {
-        let at = ROW * i;
-        if bytes_le::get_u64(values, at) > 63 {
-            return Answer::Refused(3, i as u32);
-        }
-        i += 1;
-    }
-    Answer::Patched(0)
+    let Masks::Above(row) = values::check_masks(values) else {
+        return Answer::Patched(0);
+    };
+    Answer::Refused(3, row)
 }
 
-// Record i of the list: its part of the bytes, read.
-fn record_at(records: &[u8], i: usize) -> Record
-    requires { ⌜ (i < length (now records) / 24) × (length (now records) ≤ 49152) ⌝ }
-    ensures { λ r. ⌜ asRecord r ≡ recordOf (piece 24 (now (records .entry)) i) ⌝ }
+// Record i of the list: its part of the bytes.
+fn record_at(records: &[u8], i: usize) -> &[u8]
+    requires { ⌜ (i < length (now records) / card64 .recordBytes) × (length (now records) ≤ card64 .recordsLimit) ⌝ }
+    ensures { λ r. ⌜ now r ≡ piece (card64 .recordBytes) (now (records .entry)) i ⌝ }
 {
     let at = RECORD * i;
     let end = at + RECORD;
-    steps::read_record(&records[at..end])
+    &records[at..end]
 }
 
-// The whole list, each record with the stack that the earlier ones left: the first refusal, or 16 where entries are left.
-fn judge(rows: &[[u8; 16]; 101], records: &[u8], values: &[u8], setting: Setting) -> Answer
-    requires { ⌜ (now rows ≡ lines) × (length (now records) ≤ 49152) ⌝ }
-    ensures { λ r. ⌜ Answers r (C.first (C.ofRecords (given (setting .size) (now (values .entry)) (setting .address) (setting .gp)) 0 []
-        (recordsOf (now (records .entry)))) (C.answer 0 (length (recordsOf (now (records .entry)))))) ⌝ }
+// The whole list, each record with its symbol's row and the stack that the earlier ones left: the first refusal, or 16 where entries are
+// left.
+fn judge<'a>(records: &[u8], values: &'a [u8], fixed: &'a [u8; 112], setting: Setting) -> Answer
+    requires { ⌜ (length (now records) ≤ card64 .recordsLimit) × (now fixed ≡ fixedRows) × (setting .rows ≡ length (now values) / rowBytes) ⌝ }
+    ensures { λ r. ⌜ Answers r (recordsAnswer (given setting (now (values .entry))) (now (records .entry))) ⌝ }
 {
     let count = records.len() / RECORD;
     let mut entries = [0i64; Stack::DEPTH];
@@ -98,12 +89,16 @@ fn judge(rows: &[[u8; 16]; 101], records: &[u8], values: &[u8], setting: Setting
     let mut i = 0;
     while i < count {
         let rela = record_at(records, i);
-        let done = steps::step(rows, rela, values, setting, &mut entries, stack);
-        if done.refusal != 0 {
-            return Answer::Refused(done.refusal, i as u32);
+        let row = values::row(values, fixed, records::symbol(rela));
+        let judged = steps::step(rela, row, setting, &mut entries, stack);
+        match judged {
+            Judged::Refused(number) => {
+                return Answer::Refused(number, i as u32);
+            }
+            Judged::Passes(after) => {
+                stack = after;
+            }
         }
-        let after = done.stack;
-        stack = after;
         i += 1;
     }
     if stack.height != 0 {
@@ -113,19 +108,16 @@ fn judge(rows: &[[u8; 16]; 101], records: &[u8], values: &[u8], setting: Setting
 }
 
 // Writes the whole list, which was judged before, each record with the section and the stack that the earlier ones left.
-fn write_all(
-    rows: &[[u8; 16]; 101],
+fn write_all<'a>(
     section: &mut [u8],
     records: &[u8],
-    values: &[u8],
+    values: &'a [u8],
+    fixed: &'a [u8; 112],
     setting: Setting,
 )
-    requires { ⌜ now rows ≡ lines ⌝ }
-    requires { ⌜ (setting .size ≡ length (now section)) × (length (now records) ≤ 49152) ⌝ }
-    requires { ⌜ C.first (C.ofRecords (given (setting .size) (now values) (setting .address) (setting .gp)) 0 [] (recordsOf (now records)))
-        (C.answer 0 (length (recordsOf (now records)))) .number ≡ 0 ⌝ }
-    ensures { λ _. ⌜ now (section .exit) ≡ patched (given (setting .size) (now (values .entry)) (setting .address) (setting .gp)) []
-        (now (section .entry)) (recordsOf (now (records .entry))) ⌝ }
+    requires { ⌜ (length (now records) ≤ card64 .recordsLimit) × (now fixed ≡ fixedRows) × (setting .rows ≡ length (now values) / rowBytes) ⌝ }
+    requires { ⌜ (setting .size ≡ length (now section)) × (recordsAnswer (given setting (now values)) (now records) .number ≡ 0) ⌝ }
+    ensures { λ _. ⌜ now (section .exit) ≡ P.patched (asSetting setting) [] (now (section .entry)) (M.recordsOf (given setting (now (values .entry))) (now (records .entry))) ⌝ }
 {
     let count = records.len() / RECORD;
     let mut entries = [0i64; Stack::DEPTH];
@@ -133,7 +125,8 @@ fn write_all(
     let mut written = 0;
     while written < count {
         let rela = record_at(records, written);
-        stack = writers::write(rows, section, rela, values, setting, &mut entries, stack);
+        let row = values::row(values, fixed, records::symbol(rela));
+        stack = writers::write(section, rela, row, setting, &mut entries, stack);
         written += 1;
     }
 }
@@ -150,16 +143,17 @@ pub fn patch(section: &mut [u8], records: &[u8], values: &[u8], address: u64, gp
     if masked.refuses() {
         return masked;
     }
-    let rows = table::rows();
+    let fixed = values::fixed_rows();
     let setting = Setting {
         size: section.len() as u64,
+        rows: (values.len() / ROW) as u64,
         address,
         gp,
     };
-    let judged = judge(&rows, records, values, setting);
+    let judged = judge(records, values, &fixed, setting);
     if judged.refuses() {
         return judged;
     }
-    write_all(&rows, section, records, values, setting);
+    write_all(section, records, values, &fixed, setting);
     judged
 }

@@ -10,6 +10,7 @@ use Rattle.meaning.specs.Checks.{Answer, answer}
 use Rattle.meaning.specs.Frames.{written, readingOf, outputFor, outputOf}
 use Rattle.frames.specs.declared.Gathered.{Gathered}
 use Rattle.frames.specs.Gathered.{readingIn, Filled}
+use Rattle.output.specs.Text.{inputBytes}
 use Rattle.output.proofs.Beyond.{beyond-no-matter}
 use Rattle.patcher.specs.declared.Input.{Input}
 use Rattle.patcher.specs.declared.Input.the-variants.{Bytes}
@@ -56,5 +57,5 @@ module _ (g : Gathered) (s v q input : List ℕ) (e : readingIn g s v q ≡ read
 
 -- the output for the first bytes is that for the whole
 pub whole-input : (input : List ℕ) (r : ℕ) (came is : List ℕ) → Output r (outputOf input) came is →
-    Output r (outputOf input) came is × ((whole : List ℕ) → take 550055 whole ≡ input → Output r (outputOf whole) came is)
-whole-input input r came is o = (o, λ whole e. subst (λ (w : List ℕ). Output r w came is) (ap outputOf (sym e) ∙ beyond-no-matter whole 550055 (omega arith)) o)
+    Output r (outputOf input) came is × ((whole : List ℕ) → take inputBytes whole ≡ input → Output r (outputOf whole) came is)
+whole-input input r came is o = (o, λ whole e. subst (λ (w : List ℕ). Output r w came is) (ap outputOf (sym e) ∙ beyond-no-matter whole inputBytes (omega arith)) o)

@@ -7,7 +7,10 @@ ghost use mathlib.Core.List.{List};
 ghost use mathlib.Core.Path.{_≡_};
 ghost use Prim.Native.Nat.{ℕ, _≤_};
 ghost use lib.ListN.{length, take};
+ghost use Rattle.meaning.specs.Call.{card64};
+ghost use Rattle.meaning.specs.Checks.{sectionLimit, valuesLimit};
 ghost use Rattle.meaning.specs.Frames.{outputOf};
+ghost use Rattle.output.specs.Text.{outputBytes, inputBytes};
 ghost use Rattle.patch.specs.Answers.{answerIn};
 ghost use Rattle.patcher.specs.Read.{Within};
 ghost use Rattle.patcher.specs.Output.{Output, outputPatched};
@@ -69,8 +72,8 @@ fn patch_and_write(
     gp: u64,
     out: &mut [u8],
 ) -> usize
-    requires { ⌜ length (now section) ≤ 65536 ⌝ }
-    requires { ⌜ length (now out) ≡ 134155 ⌝ }
+    requires { ⌜ length (now section) ≤ sectionLimit ⌝ }
+    requires { ⌜ length (now out) ≡ outputBytes ⌝ }
     ensures { λ r. ⌜ Output r (outputPatched (now (section .entry)) (now (records .entry)) (now (values .entry)) address gp) (now (out .entry)) (now (out .exit)) ⌝ }
 {
     let done = patch::patch(section, records, values, address, gp);
@@ -86,12 +89,12 @@ fn answer(
     records: &mut [u8],
     out: &mut [u8],
 ) -> usize
-    requires { ⌜ length (now section) ≡ 65536 ⌝ }
-    requires { ⌜ length (now values) ≡ 57344 ⌝ }
-    requires { ⌜ length (now records) ≡ 49152 ⌝ }
-    requires { ⌜ length (now out) ≡ 134155 ⌝ }
+    requires { ⌜ length (now section) ≡ sectionLimit ⌝ }
+    requires { ⌜ length (now values) ≡ valuesLimit ⌝ }
+    requires { ⌜ length (now records) ≡ card64 .recordsLimit ⌝ }
+    requires { ⌜ length (now out) ≡ outputBytes ⌝ }
     ensures { λ r. ⌜ Output r (outputOf (now (input .entry))) (now (out .entry)) (now (out .exit)) ⌝ }
-    ensures { λ r. ⌜ ((whole : List ℕ) → take 550055 whole ≡ now (input .entry) → Output r (outputOf whole) (now (out .entry)) (now (out .exit))) ⌝ }
+    ensures { λ r. ⌜ ((whole : List ℕ) → take inputBytes whole ≡ now (input .entry) → Output r (outputOf whole) (now (out .entry)) (now (out .exit))) ⌝ }
 {
     let got = frames::read(input, section, values, records);
     let n = got.section;
@@ -112,11 +115,11 @@ fn answer(
 
 // Reads, answers and writes. A read that fails is no end of the input: there is then no answer, and standard error says so.
 fn run(input: &mut [u8], section: &mut [u8], values: &mut [u8], records: &mut [u8], out: &mut [u8])
-    requires { ⌜ length (now input) ≡ 550055 ⌝ }
-    requires { ⌜ length (now section) ≡ 65536 ⌝ }
-    requires { ⌜ length (now values) ≡ 57344 ⌝ }
-    requires { ⌜ length (now records) ≡ 49152 ⌝ }
-    requires { ⌜ length (now out) ≡ 134155 ⌝ }
+    requires { ⌜ length (now input) ≡ inputBytes ⌝ }
+    requires { ⌜ length (now section) ≡ sectionLimit ⌝ }
+    requires { ⌜ length (now values) ≡ valuesLimit ⌝ }
+    requires { ⌜ length (now records) ≡ card64 .recordsLimit ⌝ }
+    requires { ⌜ length (now out) ≡ outputBytes ⌝ }
 {
     let filled = fill(input);
     let Input::Bytes(n) = filled else {
@@ -134,9 +137,9 @@ fn run(input: &mut [u8], section: &mut [u8], values: &mut [u8], records: &mut [u
 
 fn main() {
     let mut input = [0u8; INPUT];
-    let mut section = [0u8; frames::SECTION];
-    let mut values = [0u8; frames::VALUES];
-    let mut records = [0u8; frames::RECORDS];
+    let mut section = [0u8; sizes::SECTION_LIMIT];
+    let mut values = [0u8; sizes::VALUES_LIMIT];
+    let mut records = [0u8; sizes::RECORDS_LIMIT];
     let mut out = [0u8; output::OUTPUT];
     run(
         &mut input,

@@ -2,8 +2,9 @@
 use Prim.Native.Nat.{ℕ}
 use mathlib.Core.List.{List}
 use mathlib.Core.Path.{_≡_}
+use Rattle.meaning.specs.Call.{card64}
 use Rattle.meaning.specs.Checks.{Answer, answer}
-use Rattle.meaning.specs.Patch.{setting, answerOf, sectionOf}
+use Rattle.meaning.specs.Patch.{call, answerOf, sectionOf}
 use Rattle.meaning.specs.ReadBack.{Immediate, readBackOf}
 use Rattle.rofteluvi.specs.declared.RofteluviAnswer.{RofteluviAnswer}
 use Rattle.rofteluvi.specs.declared.RofteluviImmediate.{RofteluviImmediate}
@@ -16,9 +17,9 @@ immediateIn r = record { number = r .number; place = r .place; value = r .value 
 
 -- A call of patch: its answer, and what it leaves in the section.
 pub record Patches (section records values : List ℕ) (address gp : ℕ) (r : RofteluviAnswer) (left : List ℕ) : Type 0 where
-  pub says : answerIn r ≡ answerOf (setting section values address gp) records
-  pub leaves : left ≡ sectionOf (setting section values address gp) records section
+  pub says : answerIn r ≡ answerOf (call section values address gp) records
+  pub leaves : left ≡ sectionOf (call section values address gp) records section
 
 -- A call of read back: its answer.
 pub record ReadsBack (section : List ℕ) (address offset type : ℕ) (r : RofteluviImmediate) : Type 0 where
-  pub says : immediateIn r ≡ readBackOf 64 section address offset type
+  pub says : immediateIn r ≡ readBackOf card64 section address offset type

@@ -44,11 +44,11 @@ pub extern "C" fn rofteluvi_read_back(
     section: &[u8],
     address: u64,
     offset: u64,
-    kind: u32,
+    rtype: u32,
 ) -> RofteluviImmediate
-    ensures { λ r. ⌜ ReadsBack (now (section .entry)) address offset kind r ⌝ }
+    ensures { λ r. ⌜ ReadsBack (now (section .entry)) address offset rtype r ⌝ }
 {
-    let immediate = back::read_back(section, address, offset, kind as u64);
+    let immediate = back::read_back(section, address, offset, rtype as u64);
     match immediate {
         Immediate::Value(value) => RofteluviImmediate {
             number: 0,

@@ -1,19 +1,22 @@
 -- Tests and results on signed entries, which the machine holds as bits, and the operations with two operands by number. Assumes nothing.
 use mathlib.Core.Path.{_≡_, refl, sym, ap, ap₂, _∙_}
-use Prim.Native.Nat.{ℕ, zero, suc, _^_, _-_, _≤_, _<_}
+use Prim.Native.Nat.{ℕ, zero, suc, _^_, _-_, _<_}
 use native.Mathlib.Omega.{arith}
 use mathlib.Core.Bool.{Bool, true, false, cond}
 use borrow.Author.Tests.{leb-false, lt-ltb, ne-eqb}
-use lib.Dec.{ltb, eqb, lit<, lit≤}
+use lib.Dec.{ltb, eqb}
+use mathlib.Core.List.{List}
 use lib.IntN.{ℤ, pos, negsuc, natAbs}
+use lib.ListN.{getD}
 use lib.Signed.{mag}
 use mir.Syntax.{w64}
 use mir.Val.{SFits, ofZ, toZ}
 use mir.ValLaws.{toZ-ofZ}
 use Rattle.meaning.specs.Numbers.{bitsOf}
 use Rattle.meaning.specs.Stack.{entry, isZero, pushes}
-use Rattle.meaning.specs.Checks.{notCount, refuses}
-use Rattle.stack.specs.Tops.{operationOf}
+use Rattle.meaning.specs.Checks.{notCount}
+use Rattle.stack.specs.declared.Taken.the-variants.{Value}
+use Rattle.stack.specs.Tops.{takenAt, pairOf}
 
 -- what is read back from an entry's bits
 abbrev pub held : ℤ → ℤ
@@ -42,43 +45,28 @@ counted {n} z f t e = by z t (e ∙ ap (bitsOf 64) (same z (f .sfits)))
     by (pos m) t e = let h : m < 64 = leb-false 64 m t in (e, omega arith)
     by (negsuc m) t e = let q : _≡_ {A = ℕ} 0 1 = cc in absurd (omega arith)
 
-pub passes : (b : Bool) → _≡_ {A = ℕ} (cond b 12 0) 0 → b ≡ false
-passes true e = absurd (omega arith)
-passes false e = refl
+-- ---- taking an entry that is there
+
+pub took : (s : List ℤ) (h : ℕ) {z : ℤ} → (h ≡ 0 → ⊥) → z ≡ getD s (h - 1) (pos 0) → Value z (record { height = h - 1 }) ≡ takenAt s h
+took s zero n e = absurd (n refl)
+took s (suc h) n e =
+    let q : suc h - 1 ≡ h = omega arith in
+    ap₂ (λ (y : ℤ) (k : ℕ). Value y (record { height = k })) (e ∙ ap (λ (k : ℕ). getD s k (pos 0)) q) q
 
 -- ---- sub, sl, sr, add and and
 
--- what holds of each of their numbers holds of one of them
-pub each : (P : ℕ → Type 0) (n : ℕ) → 3 ≤ n → n < 8 → P 3 → P 4 → P 5 → P 6 → P 7 → P n
-each P zero l g a b c d e = absurd (omega arith)
-each P (suc zero) l g a b c d e = absurd (omega arith)
-each P (suc (suc zero)) l g a b c d e = absurd (omega arith)
-each P (suc (suc (suc zero))) l g a b c d e = a
-each P (suc (suc (suc (suc zero)))) l g a b c d e = b
-each P (suc (suc (suc (suc (suc zero))))) l g a b c d e = c
-each P (suc (suc (suc (suc (suc (suc zero)))))) l g a b c d e = d
-each P (suc (suc (suc (suc (suc (suc (suc zero))))))) l g a b c d e = e
-each P (suc (suc (suc (suc (suc (suc (suc (suc n)))))))) l g a b c d e = absurd (omega arith)
-
-pub last : (n : ℕ) → 3 ≤ n → n < 8 → (n ≡ 3 → ⊥) → (n ≡ 4 → ⊥) → (n ≡ 5 → ⊥) → (n ≡ 6 → ⊥) → n ≡ 7
-last n l g a b c d = omega arith
-
--- sl and sr alone refuse an entry
-pub shift : (n : ℕ) (z : ℤ) → 3 ≤ n → n < 8 → 4 ≤ n → n < 6 → cond (notCount 64 z) 12 0 ≡ refuses 64 (operationOf n) z
-shift n z l g =
-    each (λ k. 4 ≤ k → k < 6 → cond (notCount 64 z) 12 0 ≡ refuses 64 (operationOf k) z) n l g
-    (λ a b. absurd (omega arith)) (λ a b. refl) (λ a b. refl) (λ a b. absurd (omega arith)) (λ a b. absurd (omega arith))
-
-pub no-shift : (n : ℕ) (z : ℤ) → 3 ≤ n → n < 8 → (4 ≤ n → n < 6 → ⊥) → 0 ≡ refuses 64 (operationOf n) z
-no-shift n z l g =
-    each (λ k. (4 ≤ k → k < 6 → ⊥) → 0 ≡ refuses 64 (operationOf k) z) n l g
-    (λ f. refl) (λ f. absurd (f (lit≤ tt) (lit< tt))) (λ f. absurd (f (lit≤ tt) (lit< tt))) (λ f. refl) (λ f. refl)
+pub count-passes : (b : Bool) → _≡_ {A = ℕ} (cond b 12 0) 0 → b ≡ false
+count-passes true e = absurd (omega arith)
+count-passes false e = refl
 
 -- what one of them answers, from what the call that makes it ensures
 pub result : (n k : ℕ) {x y r : ℤ} → n ≡ k → SFits w64 x → SFits w64 y → mag r < 2 ^ 63
-    → r ≡ entry (pushes 64 (operationOf k) (held y) (held x) (pos 0)) 0
-    → held r ≡ entry (pushes 64 (operationOf n) y x (pos 0)) 0
+    → r ≡ entry (pushes 64 (pairOf k) (held y) (held x) (pos 0)) 0
+    → held r ≡ entry (pushes 64 (pairOf n) y x (pos 0)) 0
 result n k {x} {y} {r} e f g h q =
     same r h ∙ q
-    ∙ ap₂ (λ (v w : ℤ). entry (pushes 64 (operationOf k) v w (pos 0)) 0) (same y (g .sfits)) (same x (f .sfits))
-    ∙ ap (λ (m : ℕ). entry (pushes 64 (operationOf m) y x (pos 0)) 0) (sym e)
+    ∙ ap₂ (λ (v w : ℤ). entry (pushes 64 (pairOf k) v w (pos 0)) 0) (same y (g .sfits)) (same x (f .sfits))
+    ∙ ap (λ (m : ℕ). entry (pushes 64 (pairOf m) y x (pos 0)) 0) (sym e)
+
+pub last : (n : ℕ) → n < 5 → (n ≡ 0 → ⊥) → (n ≡ 1 → ⊥) → (n ≡ 2 → ⊥) → (n ≡ 3 → ⊥) → n ≡ 4
+last n p a b c d = omega arith

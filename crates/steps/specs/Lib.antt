@@ -1,2 +1,2 @@
-pub mod Refusal
 pub mod Step
+pub mod Refusal

@@ -1,43 +1,34 @@
--- The refusal of one record, as a number: 0 where every check of it passes. Its place is the record's, whatever its number.
--- For each kind of type: the checks that can fail, in their order, the others passing by themselves.
-use Prim.Native.Nat.{ℕ, suc, _/_, _≤_}
+-- The refusal of one record by the class of its type: the checks that can fail, in their order, the others passing by themselves.
+use Prim.Native.Nat.{ℕ, suc, _≤_}
 use native.Mathlib.Nat.{ne-of-gt}
 use native.Mathlib.Omega.{arith}
 use mathlib.Core.Bool.{Bool, true, false, cond}
 use mathlib.Core.List.{List, [], _∷_, _++_}
 use mathlib.Core.Option.{some}
-use mathlib.Core.Path.{_≡_, refl}
-use borrow.Author.Tests.{ne-eqb, le-ltb, ltb-false}
+use mathlib.Core.Path.{_≡_, refl, sym, ap, _∙_}
+use borrow.Author.Tests.{ne-eqb, le-ltb}
 use lib.Dec.{eqb, ltb, leb·suc-zero}
-use lib.IntN.{ℤ}
 use lib.ListN.{length, drop, length-drop}
+use Rattle.meaning.specs.Table.{Semantics, unnamed, idle, loaders, push, operation, word, bytes, stack, of, Formula, Operation, Part, Accepted, Way}
 use Rattle.meaning.specs.Call.{Setting, Record, PC, valueOf, sumOf, formula}
-use Rattle.meaning.specs.Numbers.{signed, pieces}
-use Rattle.meaning.specs.Stack.{Stack, depth, entry, isZero, takes, pushes}
-use Rattle.meaning.specs.Table.{Semantics, unnamed, idle, loaders, push, operation, word, bytes, stack, of, Formula, Part, Accepted, Way}
-use Rattle.meaning.specs.Table.{Operation, dup, assert, not, sub, sl, sr, add, and, if-else}
-use Rattle.meaning.specs.Checks.{Answer, answer, Check, check, first, ofRecord, past, absent, outside, unaligned, beyond, notMultiple, notCount, refuses}
+use Rattle.meaning.specs.Numbers.{signed}
+use Rattle.meaning.specs.Stack as MS
+use Rattle.meaning.specs.Stack.{depth, entry, takes, pushes, after}
+use Rattle.meaning.specs.Checks.{Answer, answer, Check, check, first, ofRecord, past, absent, outside, unaligned, refuses}
 use Rattle.lemmas.specs.First.{Every, Numbered}
-use Rattle.lemmas.specs.Pieces.{length-cut}
+use Rattle.lemmas.specs.Operations.{own-number}
+use Rattle.lemmas.specs.Passed.{refusalOf, record-numbered}
+use Rattle.table.specs.Keys.{class}
+use Rattle.steps.specs.Step.{valueRefusal, placeRefusal, rangeRefusal}
 
-abbrev pub refusalOf : Setting → Record → Semantics → Stack → ℕ
-refusalOf c r does st = first (ofRecord c 0 r does st) (answer 0 0) .number
+-- One refusal, and where there is none another.
+abbrev pub then : ℕ → ℕ → ℕ
+then n m = cond (eqb n 0) m n
 
--- Refusals 6 and 7 of the value that a formula uses.
-abbrev pub valueRefusal : Setting → Record → Formula → ℕ
-valueRefusal c r f = cond (past c r (some (valueOf (sumOf f)))) 6 (cond (absent c r (some (valueOf (sumOf f)))) 7 0)
-
--- Refusals 8 and 9 of a word's place.
-abbrev pub placeRefusal : ℕ → ℕ → ℕ → ℕ
-placeRefusal size offset pc = cond (outside size offset 4) 8 (cond (unaligned pc) 9 0)
-
--- Refusals 14 and 15 of a value.
-abbrev pub rangeRefusal : Accepted → ℤ → ℕ
-rangeRefusal range z = cond (beyond range z) 14 (cond (notMultiple range z) 15 0)
-
--- A symbol that is not past the rows.
-pub low-symbol : (values : List ℕ) (symbol : ℕ) → ltb (length (pieces 56 values)) symbol ≡ false → symbol ≤ length values / 56
-low-symbol values symbol e = ltb-false (length values / 56) symbol (rw length-cut at e)
+then-two : (a b : Bool) (m n x : ℕ) → eqb m 0 ≡ false → eqb n 0 ≡ false → cond a m (cond b n x) ≡ then (cond a m (cond b n 0)) x
+then-two true b m n x e f = rw e
+then-two false true m n x e f = rw f
+then-two false false m n x e f = refl
 
 -- ---- the place
 
@@ -59,84 +50,85 @@ first-placed i (k ∷ ks) a p = go (k .fails) refl (first-placed i ks a (p .1))
     go false e rest = rw e rest
 
 -- The checks of record i answer its refusal at i, or leave the answer to what comes after.
-pub first-record : (c : Setting) (i : ℕ) (r : Record) (does : Semantics) (st : Stack) (a : Answer) →
-    first (ofRecord c i r does st) a ≡ cond (eqb (refusalOf c r does st) 0) a (answer (refusalOf c r does st) i)
+pub first-record : (c : Setting) (i : ℕ) (r : Record) (d : Semantics) (st : MS.Stack) (a : Answer) →
+    first (ofRecord c i r d st) a ≡ cond (eqb (refusalOf c r d st) 0) a (answer (refusalOf c r d st) i)
 unfolding placed
-first-record c i r does st a = first-placed i (ofRecord c 0 r does st) a (omega arith)
+first-record c i r d st a = first-placed i (ofRecord c 0 r d st) a (record-numbered c 0 r d st)
 
--- ---- the number, by kinds of types
+-- ---- the classes
 
 number-cond : (b : Bool) (n : ℕ) (a : Answer) → cond b (answer n 0) a .number ≡ cond b n (a .number)
 number-cond true n a = refl
 number-cond false n a = refl
 
--- An operation refuses with 12, with 13 or not at all.
-own : ℕ → ℕ
-own n = cond (eqb n 12) 12 (cond (eqb n 13) 13 0)
-
-own-cond : (b : Bool) (n : ℕ) → own n ≡ n → own (cond b n 0) ≡ cond b n 0
-unfolding own
-own-cond true n e = e
-own-cond false n e = refl
-
-own-number : (w : ℕ) (o : Operation) (z : ℤ) →
-    cond (eqb (refuses w o z) 12) 12 (cond (eqb (refuses w o z) 13) 13 0) ≡ refuses w o z
-unfolding own
-own-number w dup z = refl
-own-number w assert z = own-cond (isZero z) 13 refl
-own-number w not z = refl
-own-number w sub z = refl
-own-number w sl z = own-cond (notCount w z) 12 refl
-own-number w sr z = own-cond (notCount w z) 12 refl
-own-number w add z = refl
-own-number w and z = refl
-own-number w if-else z = refl
-
-module _ (c : Setting) (r : Record) (st : Stack) (low : length st ≤ depth) where
-  pub refusal-unnamed : refusalOf c r unnamed st ≡ 4
-  unfolding first
-  refusal-unnamed = refl
-
-  pub refusal-loaders : refusalOf c r loaders st ≡ 5
-  unfolding first
-  refusal-loaders = refl
-
-  pub refusal-idle : refusalOf c r idle st ≡ 0
+module _ (c : Setting) (r : Record) (st : MS.Stack) (low : length st ≤ depth) where
+  refusal-idle : refusalOf c r idle st ≡ 0
   unfolding first
   refusal-idle = simp (leb·suc-zero, le-ltb depth (length st) low, number-cond)
 
-  pub refusal-push : (f : Formula) → refusalOf c r (push f) st ≡
-      cond (past c r (some (valueOf (sumOf f)))) 6
-      (cond (absent c r (some (valueOf (sumOf f)))) 7 (cond (ltb depth (suc (length st))) 11 0))
-  unfolding first
-  refusal-push f = simp (leb·suc-zero, number-cond)
+  abbrev missing : Formula → Bool
+  missing f = past c r (some (valueOf (sumOf f)))
 
-  pub refusal-bytes : (way : Way) (n : ℕ) (f : Formula) → refusalOf c r (bytes way n f) st ≡
-      cond (past c r (some (valueOf (sumOf f)))) 6
-      (cond (absent c r (some (valueOf (sumOf f)))) 7 (cond (outside (c .size) (r .offset) n) 8 0))
-  unfolding first
-  refusal-bytes way n f = simp (leb·suc-zero, le-ltb depth (length st) low, number-cond)
+  abbrev lacks : Formula → Bool
+  lacks f = absent r (some (valueOf (sumOf f)))
 
-  pub refusal-word-of : (f : Formula) (parts : List Part) (range : Accepted) → refusalOf c r (word (of f) parts range) st ≡
-      cond (past c r (some (valueOf (sumOf f)))) 6
-      (cond (absent c r (some (valueOf (sumOf f)))) 7
-      (cond (outside (c .size) (r .offset) 4) 8
-      (cond (unaligned (PC c r)) 9 (rangeRefusal range (signed (c .width) (formula c r f))))))
-  unfolding first
-  refusal-word-of f parts range = simp (leb·suc-zero, le-ltb depth (length st) low, number-cond)
+  abbrev beside : Bool
+  beside = outside (c .size) (r .offset) 4
 
-  pub refusal-word-stack : (parts : List Part) (range : Accepted) → refusalOf c r (word stack parts range) st ≡
-      cond (outside (c .size) (r .offset) 4) 8
-      (cond (unaligned (PC c r)) 9
-      (cond (ltb (length st) 1) 10 (rangeRefusal range (entry st 0))))
+  pub refusal-push : (f : Formula) → refusalOf c r (push f) st ≡ then (valueRefusal c r (valueOf (sumOf f))) (cond (ltb depth (suc (length st))) 11 0)
   unfolding first
-  refusal-word-stack parts range =
+  refusal-push f = simp (leb·suc-zero, number-cond) (then-two (missing f) (lacks f) 6 7 (cond (ltb depth (suc (length st))) 11 0) refl refl)
+
+  pub refusal-bytes : (way : Way) (n : ℕ) (f : Formula) →
+      refusalOf c r (bytes way n f) st ≡ then (valueRefusal c r (valueOf (sumOf f))) (cond (outside (c .size) (r .offset) n) 8 0)
+  unfolding first
+  refusal-bytes way n f =
+      simp (leb·suc-zero, le-ltb depth (length st) low, number-cond) (then-two (missing f) (lacks f) 6 7 (cond (outside (c .size) (r .offset) n) 8 0) refl refl)
+
+  pub refusal-word : (f : Formula) (parts : List Part) (range : Accepted) →
+      refusalOf c r (word (of f) parts range) st
+      ≡ then (valueRefusal c r (valueOf (sumOf f))) (then (placeRefusal c r) (rangeRefusal range (signed (c .card .width) (formula c r f))))
+  unfolding first
+  refusal-word f parts range =
+      let ranged : ℕ = rangeRefusal range (signed (c .card .width) (formula c r f)) in
+      simp (leb·suc-zero, le-ltb depth (length st) low, number-cond)
+      (then-two (missing f) (lacks f) 6 7 (cond beside 8 (cond (unaligned (PC c r)) 9 ranged)) refl refl
+      ∙ ap (then (valueRefusal c r (valueOf (sumOf f)))) (then-two beside (unaligned (PC c r)) 8 9 ranged refl refl))
+
+  pub refusal-pop : (parts : List Part) (range : Accepted) →
+      refusalOf c r (word stack parts range) st ≡ then (placeRefusal c r) (cond (ltb (length st) 1) 10 (rangeRefusal range (entry st 0)))
+  unfolding first
+  refusal-pop parts range =
       let h : length (drop 1 st) ≤ depth = simp length-drop (omega arith) in
       simp (le-ltb depth (length (drop 1 st)) h, number-cond)
+      (then-two beside (unaligned (PC c r)) 8 9 (cond (ltb (length st) 1) 10 (rangeRefusal range (entry st 0))) refl refl)
 
   pub refusal-operation : (o : Operation) → refusalOf c r (operation o) st ≡
       cond (ltb (length st) (takes o)) 10
-      (cond (ltb depth (length (pushes (c .width) o (entry st 0) (entry st 1) (entry st 2) ++ drop (takes o) st))) 11
-      (refuses (c .width) o (entry st 0)))
+      (cond (ltb depth (length (pushes (c .card .width) o (entry st 0) (entry st 1) (entry st 2) ++ drop (takes o) st))) 11
+      (refuses (c .card .width) o (entry st 0)))
   unfolding first
-  refusal-operation o = simp (number-cond, own-number (c .width) o (entry st 0))
+  refusal-operation o = simp (number-cond, own-number (c .card .width) o (entry st 0))
+
+-- Direct types: the stack before them decides nothing.
+pub direct-refusal : (c : Setting) (r : Record) (st : MS.Stack) → length st ≤ depth → (d : Semantics) → class d ≤ 2 → refusalOf c r d [] ≡ refusalOf c r d st
+unfolding first
+direct-refusal c r st low unnamed h = refl
+direct-refusal c r st low idle h = sym (refusal-idle c r st low)
+direct-refusal c r st low loaders h = refl
+direct-refusal c r st low (push f) h = absurd (omega arith)
+direct-refusal c r st low (operation o) h = absurd (omega arith)
+direct-refusal c r st low (word stack parts range) h = absurd (omega arith)
+direct-refusal c r st low (word (of f) parts range) h = refusal-word c r [] (omega arith) f parts range ∙ sym (refusal-word c r st low f parts range)
+direct-refusal c r st low (bytes way n f) h = refusal-bytes c r [] (omega arith) way n f ∙ sym (refusal-bytes c r st low way n f)
+
+-- and they leave it
+pub direct-after : (c : Setting) (r : Record) (st : MS.Stack) (d : Semantics) → class d ≤ 2 → st ≡ after c r d st
+direct-after c r st unnamed h = refl
+direct-after c r st idle h = refl
+direct-after c r st loaders h = refl
+direct-after c r st (push f) h = absurd (omega arith)
+direct-after c r st (operation o) h = absurd (omega arith)
+direct-after c r st (word stack parts range) h = absurd (omega arith)
+direct-after c r st (word (of f) parts range) h = refl
+direct-after c r st (bytes way n f) h = refl

@@ -1,37 +1,50 @@
--- One record's step: what it answers, and what it leaves on the stack.
-use Prim.Native.Nat.{ℕ, _≤_}
+-- One record's step: what its checks refuse, by number, and what judging answers.
+use Prim.Native.Nat.{ℕ, _<_}
+use mathlib.Core.Bool.{cond}
 use mathlib.Core.List.{List}
+use mathlib.Core.Option.{some}
 use mathlib.Core.Path.{_≡_}
 use lib.IntN.{ℤ}
 use lib.ListN.{length}
-use Rattle.meaning.specs.Table.{Semantics, semantics}
+use Rattle.meaning.specs.Table.{Value, Accepted, Semantics}
 use Rattle.meaning.specs.Call as M
-use Rattle.meaning.specs.Call.{Setting}
-use Rattle.meaning.specs.Stack as MS
+use Rattle.meaning.specs.Call.{Record, card64, rowBytes, no-row, symbolIn, PC}
 use Rattle.meaning.specs.Stack.{after}
-use Rattle.stack.specs.Tops.{tops}
-use Rattle.table.specs.Columns.{columns}
-use Rattle.steps.specs.declared.Record.{Record}
-use Rattle.steps.specs.declared.Done.{Done}
-use Rattle.steps.specs.Refusal.{refusalOf}
+use Rattle.meaning.specs.Checks.{past, absent, outside, unaligned, beyond, notMultiple}
+use Rattle.lemmas.specs.Passed.{refusalOf}
+use Rattle.stack.specs.declared.Stack.{Stack}
+use Rattle.stack.specs.declared.Judged.{Judged}
+use Rattle.stack.specs.declared.Judged.the-variants.{Passes, Refused}
+use Rattle.stack.specs.Tops.{tops, judgedNumber, Judges}
+use Rattle.records.specs.declared.Setting.{Setting}
 
--- the code's record is the meaning's
-abbrev pub asRecord : Record → M.Record
-asRecord r = record { offset = r .offset; type = r .kind; symbol = r .symbol; addend = r .addend }
+-- 6 and 7, of a value
+abbrev pub valueRefusal : M.Setting → Record → Value → ℕ
+valueRefusal c r v = cond (past c r (some v)) 6 (cond (absent r (some v)) 7 0)
 
--- what a call gives to each of its records
-abbrev pub given : ℕ → List ℕ → ℕ → ℕ → Setting
-given size values address gp = record { width = 64; size = size; values = values; address = address; gp = gp }
+-- 8 and 9, of a word
+abbrev pub placeRefusal : M.Setting → Record → ℕ
+placeRefusal c r = cond (outside (c .size) (r .offset) 4) 8 (cond (unaligned (PC c r)) 9 0)
 
--- What the step of a class may lean on: the type is of that class, and the stack has room in the sixteen entries.
-pub record At (kind class height : ℕ) : Type 0 where
-  pub class-is : columns (semantics kind) .class ≡ class
-  pub low : height ≤ 16
+-- 14 and 15, of a word's value
+abbrev pub rangeRefusal : Accepted → ℤ → ℕ
+rangeRefusal range z = cond (beyond range z) 14 (cond (notMultiple range z) 15 0)
 
--- A step at a record that does d, with the stack st before it, leaving these entries: its refusal is the record's; where there is
--- none, the stack is the one after the record.
-pub record Steps (c : Setting) (r : M.Record) (d : Semantics) (st : MS.Stack) (entries : List ℤ) (done : Done) : Type 0 where
-  pub refusal : done .refusal ≡ refusalOf c r d st
-  pub stack : done .refusal ≡ 0 → tops entries (done .stack .height) ≡ after c r d st
-  pub height : done .stack .height ≤ 16
-  pub size : length entries ≡ 16
+-- What the code holds at a record: its bytes and its row, whole; a symbol past the rows has the row of nothing.
+pub record Ready (setting : Setting) (rela row : List ℕ) : Type 0 where
+  pub whole : length rela ≡ card64 .recordBytes
+  pub whole-row : length row ≡ rowBytes
+  pub nothing : setting .rows < symbolIn card64 rela → row ≡ no-row
+
+-- Judging that leaves the stack as it is, where the refusal is n.
+abbrev pub Unchanged : Stack → Judged → Type 0
+Unchanged stack (Passes after) = after ≡ stack
+Unchanged stack (Refused n) = n ≡ 0 → ⊥
+
+pub record Direct (n : ℕ) (stack : Stack) (judged : Judged) : Type 0 where
+  pub says : judgedNumber judged ≡ n
+  pub leaves : Unchanged stack judged
+
+-- Judging of a record that does d, with the stack of this height in the entries s before it, and with the entries s′ after it.
+abbrev pub Steps : M.Setting → Record → Semantics → List ℤ → ℕ → List ℤ → Judged → Type 0
+Steps c r d s h s′ judged = Judges (refusalOf c r d (tops s h)) (after c r d (tops s h)) s′ judged

@@ -1,333 +1,310 @@
-// One record of the list judged: its checks in their order, and the stack after it.
-// A type's row is looked up where its columns are needed, by each function for itself: then no more of it than that is read.
-use stack::Operated;
+// One record of the list judged: its checks in their order, and the stack after it. Each match has the types of one class and hands on to
+// the next by its default arm, and each arm reads like its lines of Table 10. Neighbouring types stand in different arms: of an arm of
+// neighbours the compiler makes a test of a range, and not a jump.
+use records::Setting;
+use stack::Judged;
 use stack::Stack;
 use stack::Taken;
-use table::Row;
+use table::*;
 ghost use mathlib.Core.Path.{_≡_};
-ghost use mathlib.Core.Bool.{cond, _||_};
-ghost use mathlib.Core.List.{List};
-ghost use Prim.Native.Nat.{ℕ, _/_, _≤_, _<_};
-ghost use lib.IntN.{ℤ};
+ghost use mathlib.Core.Bool as B;
+ghost use mathlib.Core.List.{[]};
+ghost use Prim.Native.Nat.{_≤_, _<_};
 ghost use lib.ListN.{length};
-ghost use Rattle.meaning.specs.Table.{semantics};
-ghost use Rattle.meaning.specs.Numbers.{plus, signed};
+ghost use Rattle.meaning.specs.Table as T;
+ghost use Rattle.meaning.specs.Table.{semantics, any, of, whole, only, store-in};
+ghost use Rattle.meaning.specs.Numbers.{signed};
 ghost use Rattle.meaning.specs.Call as M;
-ghost use Rattle.meaning.specs.Checks.{outside, unaligned};
-ghost use Rattle.stack.specs.Tops.{tops, operationOf, Operates};
-ghost use Rattle.table.specs.Words.{beyondSigned, beyondUnsigned, no4};
-ghost use Rattle.table.specs.Columns.{columns, lines, rangeOf, formulaOf};
-ghost use Rattle.steps.specs.Refusal.{rangeRefusal, valueRefusal, placeRefusal};
-ghost use Rattle.steps.specs.Step.{asRecord, given, At, Steps};
+ghost use Rattle.meaning.specs.Call.{card64};
+ghost use Rattle.meaning.specs.Checks as C;
+ghost use Rattle.lemmas.specs.Passed.{refusalOf};
+ghost use Rattle.table.specs.Columns.{valueFrom, formulaFrom, rangeFrom};
+ghost use Rattle.table.specs.Keys.{class};
+ghost use Rattle.stack.specs.Tops.{Fit};
+ghost use Rattle.records.specs.Given.{asSetting, seen};
+ghost use Rattle.steps.specs.Step.{Ready, Direct, Steps, valueRefusal, placeRefusal, rangeRefusal};
 
-// A record is 24 bytes: offset (u64), info (u64), addend (i64). Type is the low 32 bits of info, symbol index the high 32.
-pub struct Record {
-    pub offset: u64,
-    pub kind: u64,
-    pub symbol: u64,
-    pub addend: u64,
-}
+// ---- the checks of several classes
 
-// What a call gives to each of its records, besides the values.
-pub struct Setting {
-    pub size: u64,
-    pub address: u64,
-    pub gp: u64,
-}
-
-// What a record's step answers: a number of refusal or 0, and the stack after it.
-pub struct Done {
-    pub refusal: u32,
-    pub stack: Stack,
-}
-
-pub fn read_record(bytes: &[u8]) -> Record
-    requires { ⌜ length (now bytes) ≡ 24 ⌝ }
-    ensures { λ r. ⌜ asRecord r ≡ M.recordOf (now (bytes .entry)) ⌝ }
+// Refusals 6 and 7, of the value that a type uses.
+fn present(rela: &[u8], row: &[u8], setting: Setting, stack: Stack, value: u32) -> Judged
+    requires { ⌜ (value < 6) × Ready setting (now rela) (now row) ⌝ }
+    ensures { λ r. ⌜ Direct (valueRefusal (asSetting setting) (seen (now (rela .entry)) (now (row .entry))) (valueFrom value)) stack r ⌝ }
 {
-    let info = bytes_le::get_u64(bytes, 8);
-    Record {
-        offset: bytes_le::get_u64(bytes, 0),
-        kind: info % 4294967296,
-        symbol: info / 4294967296,
-        addend: bytes_le::get_u64(bytes, 16),
-    }
-}
-
-// The limits by width and sign: 14 where n bits do not hold the value.
-fn beyond_signed(n: u32, x: u64) -> u32
-    requires { ⌜ (1 ≤ n) × (n < 63) ⌝ }
-    ensures { λ r. ⌜ r ≡ cond (beyondSigned n (signed 64 x)) 14 0 ⌝ }
-{
-    if numbers::in_signed(n, numbers::signed(x)) {
-        0
-    } else {
-        14
-    }
-}
-
-fn beyond_unsigned(n: u32, x: u64) -> u32
-    requires { ⌜ (1 ≤ n) × (n < 63) ⌝ }
-    ensures { λ r. ⌜ r ≡ cond (beyondUnsigned n (signed 64 x)) 14 0 ⌝ }
-{
-    if numbers::in_unsigned(n, numbers::signed(x)) {
-        0
-    } else {
-        14
-    }
-}
-
-// 15 where the value is no multiple of 4.
-fn no_multiple(x: u64) -> u32
-    ensures { λ r. ⌜ r ≡ cond (no4 (signed 64 x)) 15 0 ⌝ }
-{
-    if numbers::multiple_of_4(x) { 0 } else { 15 }
-}
-
-// The range first, then the multiple.
-fn beyond_multiple(n: u32, x: u64) -> u32
-    requires { ⌜ (1 ≤ n) × (n < 63) ⌝ }
-    ensures { λ r. ⌜ r ≡ cond (beyondSigned n (signed 64 x)) 14 (cond (no4 (signed 64 x)) 15 0) ⌝ }
-{
-    let refusal = beyond_signed(n, x);
+    let refusal = values::refusal(row, value, setting.rows, records::symbol(rela));
     if refusal != 0 {
-        return refusal;
+        return Judged::Refused(refusal);
     }
-    no_multiple(x)
+    Judged::Passes(stack)
 }
 
-// Refusals 14 and 15 of a value, by the range of its type.
-fn range_refusal(row: Row, kind: u64, x: u64) -> u32
-    requires { ⌜ row ≡ columns (semantics kind) ⌝ }
-    ensures { λ r. ⌜ r ≡ rangeRefusal (rangeOf (semantics kind)) (signed 64 x) ⌝ }
+// Refusal 8, of n bytes.
+fn outside(rela: &[u8], setting: Setting, n: u32) -> bool
+    requires { ⌜ (1 ≤ n) × (length (now rela) ≡ card64 .recordBytes) ⌝ }
+    ensures { λ r. ⌜ r ≡ C.outside (setting .size) (M.offsetIn card64 (now (rela .entry))) n ⌝ }
 {
-    let range = row.range;
-    match range {
-        0 => 0,
-        1 => beyond_signed(row.bits, x),
-        2 => beyond_unsigned(row.bits, x),
-        _ => beyond_multiple(row.bits, x),
+    numbers::outside(setting.size, records::offset(rela), n)
+}
+
+// Refusals 8 and 9, of a word.
+fn place(rela: &[u8], setting: Setting, stack: Stack) -> Judged
+    requires { ⌜ length (now rela) ≡ card64 .recordBytes ⌝ }
+    ensures { λ r. ⌜ Direct (placeRefusal (asSetting setting) (seen (now (rela .entry)) [])) stack r ⌝ }
+{
+    let beside = outside(rela, setting, 4);
+    let unaligned = records::pc(rela, setting) % 4 != 0;
+    if beside {
+        return Judged::Refused(8);
+    }
+    if unaligned {
+        return Judged::Refused(9);
+    }
+    Judged::Passes(stack)
+}
+
+// Whether a value is in its accepted range.
+fn in_range(range: Range, x: u64) -> bool
+    requires { ⌜ (1 ≤ range .bits) × (range .bits < 63) ⌝ }
+    ensures { λ r. ⌜ r ≡ B.not (C.beyond (rangeFrom range) (signed 64 x)) ⌝ }
+{
+    let sign = range.sign;
+    match sign {
+        1 => numbers::in_unsigned(range.bits, numbers::signed(x)),
+        _ => numbers::in_signed(range.bits, numbers::signed(x)),
     }
 }
 
-// Refusal 6 or 7 of the value that a record's formula uses, or 0.
-fn value_refusal(rows: &[[u8; 16]; 101], rela: Record, values: &[u8]) -> u32
-    requires { ⌜ now rows ≡ lines ⌝ }
-    ensures { λ r. ⌜ r ≡ valueRefusal (given 0 (now (values .entry)) 0 0) (asRecord rela) (formulaOf (semantics (rela .kind))) ⌝ }
+// Whether it is no multiple of 4 where its range asks for one.
+fn no_multiple(range: Range, x: u64) -> bool
+    ensures { λ r. ⌜ r ≡ C.notMultiple (rangeFrom range) (signed 64 x) ⌝ }
 {
-    let row = table::row_of(rows, rela.kind);
-    values::refusal(values, rela.symbol, row.value)
-}
-
-// Whether the place of a word is refused. Its number is worked out only then: handed on and tested it would cost every word.
-fn misplaced(rela: Record, setting: Setting) -> bool
-    ensures { λ r. ⌜ r ≡ (outside (setting .size) (rela .offset) 4 || unaligned (plus 64 (setting .address) (rela .offset))) ⌝ }
-{
-    numbers::outside(setting.size, rela.offset, 4)
-        || numbers::plus(setting.address, rela.offset) % 4 != 0
-}
-
-// Refusal 8 or 9 of the place of a word, or 0.
-fn place_refusal(rela: Record, setting: Setting) -> u32
-    ensures { λ r. ⌜ r ≡ placeRefusal (setting .size) (rela .offset) (plus 64 (setting .address) (rela .offset)) ⌝ }
-{
-    if numbers::outside(setting.size, rela.offset, 4) {
-        return 8;
+    let sign = range.sign;
+    match sign {
+        0 => false,
+        1 => false,
+        _ => !numbers::multiple_of_4(x),
     }
-    if numbers::plus(setting.address, rela.offset) % 4 != 0 {
-        return 9;
+}
+
+// Refusals 14 and 15, of a value.
+fn ranged(x: u64, stack: Stack, range: Range) -> Judged
+    requires { ⌜ (1 ≤ range .bits) × (range .bits < 63) ⌝ }
+    ensures { λ r. ⌜ Direct (rangeRefusal (rangeFrom range) (signed 64 x)) stack r ⌝ }
+{
+    let beyond = !in_range(range, x);
+    let odd = no_multiple(range, x);
+    if beyond {
+        return Judged::Refused(14);
     }
-    0
+    if odd {
+        return Judged::Refused(15);
+    }
+    Judged::Passes(stack)
 }
 
-// What the formula of a record's type gives.
-pub fn evaluate(rows: &[[u8; 16]; 101], rela: Record, values: &[u8], setting: Setting) -> u64
-    requires { ⌜ now rows ≡ lines ⌝ }
-    requires { ⌜ rela .symbol ≤ length (now values) / 56 ⌝ }
-    ensures { λ r. ⌜ r ≡ M.formula (given (setting .size) (now (values .entry)) (setting .address) (setting .gp)) (asRecord rela) (formulaOf (semantics (rela .kind))) ⌝ }
+// ---- the direct types, which leave the stack as it is
+
+// A word with no range: its value is not asked for.
+fn word(rela: &[u8], row: &[u8], setting: Setting, stack: Stack, value: u32) -> Judged
+    requires { ⌜ (value < 6) × Ready setting (now rela) (now row) ⌝ }
+    ensures { λ r. ⌜ Direct (refusalOf (asSetting setting) (seen (now (rela .entry)) (now (row .entry))) (T.word (of (whole (only (valueFrom value)))) [] any) []) stack r ⌝ }
 {
-    let row = table::row_of(rows, rela.kind);
-    let pc = numbers::plus(setting.address, rela.offset);
-    values::evaluate(
-        values,
-        rela.symbol,
-        row.value,
-        row.sum,
-        row.formula,
-        rela.addend,
-        setting.gp,
-        pc,
-    )
+    let there = present(rela, row, setting, stack, value);
+    if let Judged::Refused(number) = there {
+        return Judged::Refused(number);
+    }
+    place(rela, setting, stack)
 }
 
-fn refused(refusal: u32, stack: Stack) -> Done
-    ensures { λ r. ⌜ (r .refusal ≡ refusal) × (r .stack ≡ stack) ⌝ }
-{
-    Done { refusal, stack }
-}
-
-// 22, 23, 25 to 29: push a formula's value.
-fn push(
-    rows: &[[u8; 16]; 101],
-    rela: Record,
-    values: &[u8],
+// A word whose value has a range.
+fn checked(
+    rela: &[u8],
+    row: &[u8],
     setting: Setting,
-    entries: &mut [i64; Stack::DEPTH],
     stack: Stack,
-) -> Done
-    requires { ⌜ now rows ≡ lines ⌝ }
-    requires { ⌜ At (rela .kind) 3 (stack .height) ⌝ }
-    requires { ⌜ length (now entries) ≡ 16 ⌝ }
-    ensures { λ r. ⌜ Steps (given (setting .size) (now (values .entry)) (setting .address) (setting .gp)) (asRecord rela) (semantics (rela .kind))
-        (tops (now (entries .entry)) (stack .height)) (now (entries .exit)) r ⌝ }
+    of: Sum,
+    less: u32,
+    range: Range,
+) -> Judged
+    requires { ⌜ (of .value < 6) × (1 ≤ range .bits) × (range .bits < 63) × Ready setting (now rela) (now row) ⌝ }
+    ensures { λ r. ⌜ Direct (refusalOf (asSetting setting) (seen (now (rela .entry)) (now (row .entry))) (T.word (T.of (formulaFrom of less)) [] (rangeFrom range)) []) stack r ⌝ }
 {
-    let refusal = value_refusal(rows, rela, values);
-    if refusal != 0 {
-        return refused(refusal, stack);
+    let there = present(rela, row, setting, stack, of.value);
+    if let Judged::Refused(number) = there {
+        return Judged::Refused(number);
     }
-    let x = evaluate(rows, rela, values, setting);
-    let put = stack::put(entries, stack, numbers::signed(x));
-    let after = put.stack;
-    Done {
-        refusal: put.refusal,
-        stack: after,
+    let placed = place(rela, setting, stack);
+    if let Judged::Refused(number) = placed {
+        return Judged::Refused(number);
+    }
+    ranged(records::formula(rela, row, setting, of, less), stack, range)
+}
+
+// So many bytes of data.
+fn bytes(rela: &[u8], row: &[u8], setting: Setting, stack: Stack, value: u32, n: u32) -> Judged
+    requires { ⌜ (value < 6) × (1 ≤ n) × Ready setting (now rela) (now row) ⌝ }
+    ensures { λ r. ⌜ Direct (refusalOf (asSetting setting) (seen (now (rela .entry)) (now (row .entry))) (T.bytes store-in n (whole (only (valueFrom value)))) []) stack r ⌝ }
+{
+    let there = present(rela, row, setting, stack, value);
+    if let Judged::Refused(number) = there {
+        return Judged::Refused(number);
+    }
+    if outside(rela, setting, n) {
+        Judged::Refused(8)
+    } else {
+        Judged::Passes(stack)
     }
 }
 
-// An operation by its number, for judging and for writing. With each number written out the compiler makes a path of its own of each.
-pub fn operate(operation: u32, entries: &mut [i64; Stack::DEPTH], stack: Stack) -> Operated
-    requires { ⌜ (stack .height ≤ 16) × (length (now entries) ≡ 16) ⌝ }
-    ensures { λ r. ⌜ Operates (operationOf operation) (tops (now (entries .entry)) (stack .height)) (r .refusal) (now (entries .exit)) (r .stack .height) ⌝ }
+// Types that do nothing, the run-time loader's, and those that are not named.
+fn others(rtype: u64, stack: Stack) -> Judged
+    requires { ⌜ class (semantics rtype) ≤ 0 ⌝ }
+    ensures { λ r. ⌜ ((c : M.Setting) (rec : M.Record) → Direct (refusalOf c rec (semantics rtype) []) stack r) ⌝ }
 {
-    match operation {
-        0 => stack::operate(0, entries, stack),
-        1 => stack::operate(1, entries, stack),
-        2 => stack::operate(2, entries, stack),
-        3 => stack::operate(3, entries, stack),
-        4 => stack::operate(4, entries, stack),
-        5 => stack::operate(5, entries, stack),
-        6 => stack::operate(6, entries, stack),
-        7 => stack::operate(7, entries, stack),
-        _ => stack::operate(8, entries, stack),
-    }
-}
-
-// 24, 30 to 37: an operation on the stack's entries.
-fn operation(
-    rows: &[[u8; 16]; 101],
-    kind: u64,
-    entries: &mut [i64; Stack::DEPTH],
-    stack: Stack,
-) -> Done
-    requires { ⌜ now rows ≡ lines ⌝ }
-    requires { ⌜ At kind 4 (stack .height) ⌝ }
-    requires { ⌜ length (now entries) ≡ 16 ⌝ }
-    ensures { λ r. ⌜ ((size : ℕ) (values : List ℕ) (address gp : ℕ) (rela : M.Record) → Steps (given size values address gp) rela (semantics kind)
-        (tops (now (entries .entry)) (stack .height)) (now (entries .exit)) r) ⌝ }
-{
-    let row = table::row_of(rows, kind);
-    let operated = operate(row.operation, entries, stack);
-    let after = operated.stack;
-    Done {
-        refusal: operated.refusal,
-        stack: after,
-    }
-}
-
-// 38 to 46: a word whose value is taken from the stack.
-fn stack_word(
-    rows: &[[u8; 16]; 101],
-    rela: Record,
-    setting: Setting,
-    entries: &[i64; Stack::DEPTH],
-    stack: Stack,
-) -> Done
-    requires { ⌜ now rows ≡ lines ⌝ }
-    requires { ⌜ At (rela .kind) 5 (stack .height) ⌝ }
-    requires { ⌜ length (now entries) ≡ 16 ⌝ }
-    ensures { λ r. ⌜ ((values : List ℕ) → Steps (given (setting .size) values (setting .address) (setting .gp)) (asRecord rela) (semantics (rela .kind))
-        (tops (now (entries .entry)) (stack .height)) (now (entries .entry)) r) ⌝ }
-{
-    if misplaced(rela, setting) {
-        return refused(place_refusal(rela, setting), stack);
-    }
-    let Taken::Value(z, below) = stack.take(entries) else {
-        return refused(Stack::TOO_FEW, stack);
-    };
-    let row = table::row_of(rows, rela.kind);
-    Done {
-        refusal: range_refusal(row, rela.kind, numbers::bits(z)),
-        stack: below,
-    }
-}
-
-// 64 to 98: a word whose value is a formula's. Only a range asks for the value.
-fn word(rows: &[[u8; 16]; 101], rela: Record, values: &[u8], setting: Setting, stack: Stack) -> Done
-    requires { ⌜ now rows ≡ lines ⌝ }
-    requires { ⌜ At (rela .kind) 6 (stack .height) ⌝ }
-    ensures { λ r. ⌜ ((entries : List ℤ) → length entries ≡ 16 → Steps (given (setting .size) (now (values .entry)) (setting .address) (setting .gp))
-        (asRecord rela) (semantics (rela .kind)) (tops entries (stack .height)) entries r) ⌝ }
-{
-    let refusal = value_refusal(rows, rela, values);
-    if refusal != 0 {
-        return refused(refusal, stack);
-    }
-    if misplaced(rela, setting) {
-        return refused(place_refusal(rela, setting), stack);
-    }
-    let row = table::row_of(rows, rela.kind);
-    if row.range == 0 {
-        return Done { refusal: 0, stack };
-    }
-    let x = evaluate(rows, rela, values, setting);
-    Done {
-        refusal: range_refusal(row, rela.kind, x),
-        stack,
+    match rtype {
+        0 | 20 | 57 | 100 => Judged::Passes(stack),
+        21 | 58 => Judged::Passes(stack),
+        3..=12 => Judged::Refused(5),
+        _ => Judged::Refused(4),
     }
 }
 
 // 1, 2, 47 to 56, 99: bytes of data.
-fn data(rows: &[[u8; 16]; 101], rela: Record, values: &[u8], setting: Setting, stack: Stack) -> Done
-    requires { ⌜ now rows ≡ lines ⌝ }
-    requires { ⌜ At (rela .kind) 7 (stack .height) ⌝ }
-    ensures { λ r. ⌜ ((entries : List ℤ) → length entries ≡ 16 → Steps (given (setting .size) (now (values .entry)) (setting .address) (setting .gp))
-        (asRecord rela) (semantics (rela .kind)) (tops entries (stack .height)) entries r) ⌝ }
+fn data(rtype: u64, rela: &[u8], row: &[u8], setting: Setting, stack: Stack) -> Judged
+    requires { ⌜ (class (semantics rtype) ≤ 1) × Ready setting (now rela) (now row) ⌝ }
+    ensures { λ r. ⌜ Direct (refusalOf (asSetting setting) (seen (now (rela .entry)) (now (row .entry))) (semantics rtype) []) stack r ⌝ }
 {
-    let refusal = value_refusal(rows, rela, values);
-    if refusal != 0 {
-        return refused(refusal, stack);
+    match rtype {
+        47 | 52 => bytes(rela, row, setting, stack, S, 1),
+        48 | 53 => bytes(rela, row, setting, stack, S, 2),
+        49 | 54 => bytes(rela, row, setting, stack, S, 3),
+        1 | 50 | 55 | 99 => bytes(rela, row, setting, stack, S, 4),
+        2 | 51 | 56 => bytes(rela, row, setting, stack, S, 8),
+        _ => others(rtype, stack),
     }
-    let row = table::row_of(rows, rela.kind);
-    if numbers::outside(setting.size, rela.offset, row.count) {
-        return refused(8, stack);
-    }
-    Done { refusal: 0, stack }
 }
 
-// One record's step, by the class of its type.
-pub fn step(
-    rows: &[[u8; 16]; 101],
-    rela: Record,
-    values: &[u8],
+// 64 to 98: words whose value is a formula's.
+fn words(rtype: u64, rela: &[u8], row: &[u8], setting: Setting, stack: Stack) -> Judged
+    requires { ⌜ (class (semantics rtype) ≤ 2) × Ready setting (now rela) (now row) ⌝ }
+    ensures { λ r. ⌜ Direct (refusalOf (asSetting setting) (seen (now (rela .entry)) (now (row .entry))) (semantics rtype) []) stack r ⌝ }
+{
+    match rtype {
+        64 => checked(rela, row, setting, stack, S_PLUS_A, LESS_PC, SIGNED18_BY4),
+        65 => checked(rela, row, setting, stack, S_PLUS_A, LESS_PC, SIGNED23_BY4),
+        66 => checked(rela, row, setting, stack, S_PLUS_A, LESS_PC, SIGNED28_BY4),
+        67 | 69 | 71 | 73 => word(rela, row, setting, stack, S),
+        68 | 70 | 72 | 74 => word(rela, row, setting, stack, S),
+        75 | 77 | 79 | 81 => word(rela, row, setting, stack, G),
+        76 | 78 | 80 | 82 => word(rela, row, setting, stack, G),
+        83 | 85 => word(rela, row, setting, stack, T),
+        84 | 86 => word(rela, row, setting, stack, T),
+        87 | 89 | 91 | 93 | 96 | 98 => word(rela, row, setting, stack, IE),
+        88 | 90 | 92 | 94 => word(rela, row, setting, stack, IE),
+        95 | 97 => word(rela, row, setting, stack, GD),
+        _ => data(rtype, rela, row, setting, stack),
+    }
+}
+
+// ---- the types that take from the stack or push onto it
+
+// A word whose value is taken from the stack.
+fn pop(
+    rela: &[u8],
+    setting: Setting,
+    entries: &[i64; Stack::DEPTH],
+    stack: Stack,
+    range: Range,
+) -> Judged
+    requires { ⌜ (1 ≤ range .bits) × (range .bits < 63) × (length (now rela) ≡ card64 .recordBytes) × Fit (now entries) (stack .height) ⌝ }
+    ensures { λ r. ⌜ Steps (asSetting setting) (seen (now (rela .entry)) []) (T.word T.stack [] (rangeFrom range)) (now (entries .entry)) (stack .height) (now (entries .entry)) r ⌝ }
+{
+    let placed = place(rela, setting, stack);
+    if let Judged::Refused(number) = placed {
+        return Judged::Refused(number);
+    }
+    let Taken::Value(z, below) = stack.take(entries) else {
+        return Judged::Refused(stack::TOO_FEW);
+    };
+    ranged(numbers::bits(z), below, range)
+}
+
+// A formula's value onto the stack.
+fn push(
+    rela: &[u8],
+    row: &[u8],
     setting: Setting,
     entries: &mut [i64; Stack::DEPTH],
     stack: Stack,
-) -> Done
-    requires { ⌜ now rows ≡ lines ⌝ }
-    requires { ⌜ (stack .height ≤ 16) × (length (now entries) ≡ 16) ⌝ }
-    ensures { λ r. ⌜ Steps (given (setting .size) (now (values .entry)) (setting .address) (setting .gp)) (asRecord rela) (semantics (rela .kind))
-        (tops (now (entries .entry)) (stack .height)) (now (entries .exit)) r ⌝ }
+    of: Sum,
+    less: u32,
+) -> Judged
+    requires { ⌜ (of .value < 6) × Ready setting (now rela) (now row) × Fit (now entries) (stack .height) ⌝ }
+    ensures { λ r. ⌜ Steps (asSetting setting) (seen (now (rela .entry)) (now (row .entry))) (T.push (formulaFrom of less)) (now (entries .entry)) (stack .height) (now (entries .exit)) r ⌝ }
 {
-    let row = table::row_of(rows, rela.kind);
-    let class = row.class;
-    match class {
-        1 => Done { refusal: 0, stack },
-        2 => refused(5, stack),
-        3 => push(rows, rela, values, setting, entries, stack),
-        4 => operation(rows, rela.kind, entries, stack),
-        5 => stack_word(rows, rela, setting, entries, stack),
-        6 => word(rows, rela, values, setting, stack),
-        7 => data(rows, rela, values, setting, stack),
-        _ => refused(4, stack),
+    let there = present(rela, row, setting, stack, of.value);
+    if let Judged::Refused(number) = there {
+        return Judged::Refused(number);
+    }
+    let x = records::formula(rela, row, setting, of, less);
+    stack::put(entries, stack, numbers::signed(x))
+}
+
+// 38 to 46: words whose value is taken from the stack.
+fn pops(
+    rtype: u64,
+    rela: &[u8],
+    row: &[u8],
+    setting: Setting,
+    entries: &[i64; Stack::DEPTH],
+    stack: Stack,
+) -> Judged
+    requires { ⌜ (class (semantics rtype) ≤ 3) × Ready setting (now rela) (now row) × Fit (now entries) (stack .height) ⌝ }
+    ensures { λ r. ⌜ Steps (asSetting setting) (seen (now (rela .entry)) (now (row .entry))) (semantics rtype) (now (entries .entry)) (stack .height) (now (entries .entry)) r ⌝ }
+{
+    match rtype {
+        38 => pop(rela, setting, entries, stack, SIGNED5),
+        39 => pop(rela, setting, entries, stack, UNSIGNED12),
+        40 => pop(rela, setting, entries, stack, SIGNED12),
+        41 => pop(rela, setting, entries, stack, SIGNED16),
+        42 => pop(rela, setting, entries, stack, SIGNED18_BY4),
+        43 => pop(rela, setting, entries, stack, SIGNED20),
+        44 => pop(rela, setting, entries, stack, SIGNED23_BY4),
+        45 => pop(rela, setting, entries, stack, SIGNED28_BY4),
+        46 => pop(rela, setting, entries, stack, UNSIGNED32),
+        _ => words(rtype, rela, row, setting, stack),
+    }
+}
+
+// One record's step: 22 to 37, pushes and operations, and the others by their classes.
+pub fn step(
+    rela: &[u8],
+    row: &[u8],
+    setting: Setting,
+    entries: &mut [i64; Stack::DEPTH],
+    stack: Stack,
+) -> Judged
+    requires { ⌜ Ready setting (now rela) (now row) × Fit (now entries) (stack .height) ⌝ }
+    ensures { λ r. ⌜ Steps (asSetting setting) (seen (now (rela .entry)) (now (row .entry))) (semantics (M.typeIn card64 (now (rela .entry)))) (now (entries .entry)) (stack .height) (now (entries .exit)) r ⌝ }
+{
+    let rtype = records::rtype(rela);
+    match rtype {
+        22 => push(rela, row, setting, entries, stack, S_PLUS_A, LESS_PC),
+        23 => push(rela, row, setting, entries, stack, S_PLUS_A, WHOLE),
+        24 => stack::dup(entries, stack),
+        25 => push(rela, row, setting, entries, stack, ONLY_G, WHOLE),
+        26 => push(rela, row, setting, entries, stack, ONLY_T, WHOLE),
+        27 => push(rela, row, setting, entries, stack, ONLY_IE, WHOLE),
+        28 => push(rela, row, setting, entries, stack, ONLY_GD, WHOLE),
+        29 => push(rela, row, setting, entries, stack, ONLY_PLT, LESS_PC),
+        30 => stack::assert(entries, stack),
+        31 => stack::not(entries, stack),
+        32 => stack::pair(stack::SUB, entries, stack),
+        33 => stack::pair(stack::SL, entries, stack),
+        34 => stack::pair(stack::SR, entries, stack),
+        35 => stack::pair(stack::ADD, entries, stack),
+        36 => stack::pair(stack::AND, entries, stack),
+        37 => stack::if_else(entries, stack),
+        _ => pops(rtype, rela, row, setting, entries, stack),
     }
 }

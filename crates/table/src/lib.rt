@@ -1,79 +1,212 @@
-// Table 10 of the psABI as an array of bytes, one line for each type from 0 to 100, proved equal to what the meaning's table says.
-// An array that is a constant is built anew at each use, so a call makes it once, by `rows`, and lends it to `row_of`.
+// The columns of Table 10, by the psABI's names: what an arm of the code hands on for its types. Nothing is computed here.
 
-mod lines;
+// The values of a symbol, by their mask bits.
+pub const S: u32 = 0;
 
-ghost use mathlib.Core.Path.{_≡_};
-ghost use Rattle.meaning.specs.Table.{semantics};
-ghost use Rattle.table.specs.Columns.{columns, lines, rowIn};
+pub const G: u32 = 1;
 
-// What a type does, as numbers. A column that a class has no use for is 0.
-pub struct Row {
-    // 0 unnamed, 1 idle, 2 the run-time loader's, 3 push, 4 operation, 5 word with the stack's value, 6 word with a formula's, 7 bytes
-    pub class: u32,
-    // the value that the formula uses, by its mask bit: S 0, G 1, PLT 2, T 3, IE 4, GD 5
+pub const PLT: u32 = 2;
+
+pub const T: u32 = 3;
+
+pub const IE: u32 = 4;
+
+pub const GD: u32 = 5;
+
+// The sums: a value alone, with the addend, or with GP.
+pub struct Sum {
     pub value: u32,
-    // 0 the value only, 1 with A, 2 with GP
-    pub sum: u32,
-    // 0 the sum whole, 1 less PC, 2 pages, 3 far
-    pub formula: u32,
-    // 0 dup, 1 assert, 2 not, 3 sub, 4 sl, 5 sr, 6 add, 7 and, 8 if-else
-    pub operation: u32,
-    // 0 store in, 1 add to, 2 subtract from
-    pub way: u32,
-    // how many bytes it writes
-    pub count: u32,
-    // the field's first part: `many` bits, from the value's bit `low` to the word's bit `at`
+    pub with: u32,
+}
+
+pub const NOTHING: u32 = 0;
+
+pub const ADDEND: u32 = 1;
+
+pub const GP: u32 = 2;
+
+pub const S_PLUS_A: Sum = Sum {
+    value: S,
+    with: ADDEND,
+};
+
+pub const ONLY_G: Sum = Sum {
+    value: G,
+    with: NOTHING,
+};
+
+pub const ONLY_PLT: Sum = Sum {
+    value: PLT,
+    with: NOTHING,
+};
+
+pub const ONLY_T: Sum = Sum {
+    value: T,
+    with: NOTHING,
+};
+
+pub const ONLY_IE: Sum = Sum {
+    value: IE,
+    with: NOTHING,
+};
+
+pub const ONLY_GD: Sum = Sum {
+    value: GD,
+    with: NOTHING,
+};
+
+pub const GP_PLUS_G: Sum = Sum { value: G, with: GP };
+
+pub const GP_PLUS_IE: Sum = Sum {
+    value: IE,
+    with: GP,
+};
+
+pub const GP_PLUS_GD: Sum = Sum {
+    value: GD,
+    with: GP,
+};
+
+// What is made of a sum: itself, less PC, its page less PC's, or less PC with its low 32 bits cleared.
+pub const WHOLE: u32 = 0;
+
+pub const LESS_PC: u32 = 1;
+
+pub const PAGES: u32 = 2;
+
+pub const FAR: u32 = 3;
+
+// A part of a field: `many` bits, from the value's bit `low` to the word's bit `at`.
+pub struct Part {
     pub low: u32,
     pub many: u32,
     pub at: u32,
-    // its second part, or zeros
-    pub low2: u32,
-    pub many2: u32,
-    pub at2: u32,
-    // 0 any, 1 signed, 2 unsigned, 3 signed and a multiple of 4
-    pub range: u32,
-    // how many bits an accepted value has
+}
+
+// [31..12] to [24..5], [11..0] to [21..10], [51..32] to [24..5], [63..52] to [21..10]
+pub const HI20: Part = Part {
+    low: 12,
+    many: 20,
+    at: 5,
+};
+
+pub const LO12: Part = Part {
+    low: 0,
+    many: 12,
+    at: 10,
+};
+
+pub const LO20_64: Part = Part {
+    low: 32,
+    many: 20,
+    at: 5,
+};
+
+pub const HI12_64: Part = Part {
+    low: 52,
+    many: 12,
+    at: 10,
+};
+
+// [4..0] to [14..10], [15..0] to [25..10], [19..0] to [24..5], [31..0] to [31..0]
+pub const LOW5: Part = Part {
+    low: 0,
+    many: 5,
+    at: 10,
+};
+
+pub const LOW16: Part = Part {
+    low: 0,
+    many: 16,
+    at: 10,
+};
+
+pub const LOW20: Part = Part {
+    low: 0,
+    many: 20,
+    at: 5,
+};
+
+pub const WORD: Part = Part {
+    low: 0,
+    many: 32,
+    at: 0,
+};
+
+// Of multiples of 4: [17..2] to [25..10], and above it [22..18] to [4..0] or [27..18] to [9..0]
+pub const MID16: Part = Part {
+    low: 2,
+    many: 16,
+    at: 10,
+};
+
+pub const HI5: Part = Part {
+    low: 18,
+    many: 5,
+    at: 0,
+};
+
+pub const HI10: Part = Part {
+    low: 18,
+    many: 10,
+    at: 0,
+};
+
+// The accepted values: n-bit signed numbers, n-bit unsigned ones, or of the signed ones the multiples of 4.
+pub struct Range {
+    pub sign: u32,
     pub bits: u32,
 }
 
-pub fn rows() -> [[u8; 16]; 101]
-    ensures { λ r. ⌜ r ≡ lines ⌝ }
-{
-    lines::TABLE
-}
+pub const SIGNED: u32 = 0;
 
-// One line as a row.
-fn row_in(line: [u8; 16]) -> Row
-    ensures { λ r. ⌜ r ≡ rowIn line ⌝ }
-{
-    Row {
-        class: line[1] as u32,
-        value: line[2] as u32,
-        sum: line[3] as u32,
-        formula: line[4] as u32,
-        operation: line[5] as u32,
-        way: line[6] as u32,
-        count: line[7] as u32,
-        low: line[8] as u32,
-        many: line[9] as u32,
-        at: line[10] as u32,
-        low2: line[11] as u32,
-        many2: line[12] as u32,
-        at2: line[13] as u32,
-        range: line[14] as u32,
-        bits: line[15] as u32,
-    }
-}
+pub const UNSIGNED: u32 = 1;
 
-// What a type does. A type past the table's end is unnamed.
-pub fn row_of(rows: &[[u8; 16]; 101], t: u64) -> Row
-    requires { ⌜ now rows ≡ lines ⌝ }
-    ensures { λ r. ⌜ r ≡ columns (semantics t) ⌝ }
-{
-    if t < 101 {
-        let i = t as usize;
-        return row_in(rows[i]);
-    }
-    row_in([0u8; 16])
-}
+pub const MULTIPLE_OF_4: u32 = 2;
+
+// -16 to 15, -2,048 to 2,047, -32,768 to 32,767, -524,288 to 524,287
+pub const SIGNED5: Range = Range {
+    sign: SIGNED,
+    bits: 5,
+};
+
+pub const SIGNED12: Range = Range {
+    sign: SIGNED,
+    bits: 12,
+};
+
+pub const SIGNED16: Range = Range {
+    sign: SIGNED,
+    bits: 16,
+};
+
+pub const SIGNED20: Range = Range {
+    sign: SIGNED,
+    bits: 20,
+};
+
+// 0 to 4,095, 0 to 4,294,967,295
+pub const UNSIGNED12: Range = Range {
+    sign: UNSIGNED,
+    bits: 12,
+};
+
+pub const UNSIGNED32: Range = Range {
+    sign: UNSIGNED,
+    bits: 32,
+};
+
+pub const SIGNED18_BY4: Range = Range {
+    sign: MULTIPLE_OF_4,
+    bits: 18,
+};
+
+pub const SIGNED23_BY4: Range = Range {
+    sign: MULTIPLE_OF_4,
+    bits: 23,
+};
+
+pub const SIGNED28_BY4: Range = Range {
+    sign: MULTIPLE_OF_4,
+    bits: 28,
+};

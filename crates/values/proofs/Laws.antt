@@ -1,59 +1,82 @@
--- A symbol's row, its refusal and its words, over plain numbers and lists.
+-- A symbol's row is a part of the table or one of the fixed two, and the refusal of a value by its row. Over plain numbers and lists.
 use Prim.Native.Nat.{ℕ, zero, suc, _+_, _-_, _*_, _/_, _%_, _^_, _≤_, _<_}
-use native.Mathlib.Nat.{div-eq-of-lt, not-suc-le-zero}
+use native.Mathlib.Nat.{zero-div}
 use native.Mathlib.Omega.{arith}
 use mathlib.Core.List.{List}
 use mathlib.Core.Path.{_≡_, refl, sym, ap, _∙_}
-use borrow.Author.Tests.{lt-ltb, le-ltb, eq-eqb, ne-eqb}
-use lib.Dec.{leb·suc-zero}
-use lib.ListN.{length, take, drop}
-use lib.Pow.{pow-lt}
-use Rattle.meaning.specs.Numbers.{number, bytesOf, pieces}
-use Rattle.meaning.specs.Call.{mask, rowOf}
+use mathlib.Core.Bool.{Bool, true, false}
+use borrow.Author.Tests.{lt-ltb, le-ltb, eq-eqb, ne-eqb, ltb-true, ltb-false}
+use lib.Dec.{ltb}
+use lib.ListN.{length, take, drop, getD, List·getD-eq-default}
+use Rattle.meaning.specs.Numbers.{number, bytesOf}
+use Rattle.meaning.specs.Call.{rowBytes, rowsOf, rowOf, no-row, mask}
 use Rattle.lemmas.specs.Pieces.{piece-at, length-cut, length-piece}
-use Rattle.values.specs.Values.{refusalAt, wordAt}
+use Rattle.values.specs.Values.{fixedRows, refusalAt}
 
--- the row of a symbol from 1 up is a part of the table, and whole
-pub row-is : (s : List ℕ) (symbol : ℕ) → 1 ≤ symbol → symbol ≤ length s / 56 →
-    take (56 * (symbol - 1) + 56 - 56 * (symbol - 1)) (drop (56 * (symbol - 1)) s) ≡ rowOf (pieces 56 s) symbol
-row-is s zero h k = absurd (not-suc-le-zero h)
-row-is s (suc k) h p =
+pub fixed-long : length fixedRows ≡ rowBytes + rowBytes
+unfolding fixedRows bytesOf
+fixed-long = refl
+
+pub row-zero : (values : List ℕ) → take rowBytes (drop 0 fixedRows) ≡ rowOf (rowsOf values) 0
+unfolding fixedRows bytesOf
+row-zero values = refl
+
+-- past the rows
+pub row-past : (values : List ℕ) (symbol : ℕ) → (symbol ≡ 0 → ⊥) → length values / rowBytes ≤ symbol - 1 →
+    take rowBytes (drop rowBytes fixedRows) ≡ rowOf (rowsOf values) symbol
+unfolding fixedRows bytesOf
+row-past values zero z h = absurd (z refl)
+row-past values (suc k) z h =
+    let past : length (rowsOf values) ≤ k = rw (length-cut rowBytes (length values / rowBytes) values) (omega arith) in
+    sym (List·getD-eq-default (rowsOf values) no-row past)
+
+-- in the table
+pub row-there : (values : List ℕ) (symbol : ℕ) → (symbol ≡ 0 → ⊥) → symbol - 1 < length values / rowBytes →
+    take (rowBytes * (symbol - 1) + rowBytes - rowBytes * (symbol - 1)) (drop (rowBytes * (symbol - 1)) values) ≡ rowOf (rowsOf values) symbol
+row-there values zero z h = absurd (z refl)
+row-there values (suc k) z h =
     let e : suc k - 1 ≡ k = omega arith in
-    let n : 56 * k + 56 - 56 * k ≡ 56 = omega arith in
-    simp (e, n) (sym (piece-at 56 s (length s / 56) k p))
+    let n : rowBytes * k + rowBytes - rowBytes * k ≡ rowBytes = omega arith in
+    simp (e, n) (sym (piece-at rowBytes values (length values / rowBytes) k no-row (omega arith)))
 
-pub row-whole : (s row : List ℕ) (symbol : ℕ) → 1 ≤ symbol → symbol ≤ length s / 56 → row ≡ rowOf (pieces 56 s) symbol → length row ≡ 56
-row-whole s row zero h k e = absurd (not-suc-le-zero h)
-row-whole s row (suc k) h p e = ap length (e ∙ piece-at 56 s (length s / 56) k p) ∙ length-piece 56 s k (omega arith)
+-- every row is whole
+pub row-whole : (values : List ℕ) (symbol : ℕ) → length (rowOf (rowsOf values) symbol) ≡ rowBytes
+unfolding bytesOf
+row-whole values zero = refl
+row-whole values (suc k) = go (ltb k (length values / rowBytes)) refl
+  where
+    go : (b : Bool) → ltb k (length values / rowBytes) ≡ b → length (getD (rowsOf values) k no-row) ≡ rowBytes
+    go true e =
+        let h = ltb-true k (length values / rowBytes) e in
+        ap length (piece-at rowBytes values (length values / rowBytes) k no-row h) ∙ length-piece rowBytes values k (omega arith)
+    go false e =
+        let past : length (rowsOf values) ≤ k =
+        rw (length-cut rowBytes (length values / rowBytes) values) (ltb-false k (length values / rowBytes) e) in
+        ap length (List·getD-eq-default (rowsOf values) no-row past)
 
-module _ (s : List ℕ) where
-  -- symbol 0: S is present, and nothing else; its words are 0
-  pub refusal-S : 0 ≡ refusalAt (pieces 56 s) 0 0
-  unfolding number bytesOf
-  refusal-S = simp leb·suc-zero
+-- past the rows it is the row of nothing
+pub row-none : (values : List ℕ) (symbol : ℕ) → length values / rowBytes < symbol → rowOf (rowsOf values) symbol ≡ no-row
+row-none values zero h = absurd (omega arith)
+row-none values (suc k) h =
+    let past : length (rowsOf values) ≤ k = rw (length-cut rowBytes (length values / rowBytes) values) (omega arith) in
+    List·getD-eq-default (rowsOf values) no-row past
 
-  pub refusal-no-other : (k : ℕ) → (k ≡ 0 → ⊥) → 7 ≡ refusalAt (pieces 56 s) 0 k
-  unfolding number bytesOf
-  refusal-no-other k h =
-      let p : 1 < 2 ^ k = pow-lt {i = 0} (omega arith) in
-      simp (leb·suc-zero, div-eq-of-lt p)
+-- ---- the refusal of a value
 
-  pub word-none : (k : ℕ) → k < 6 → 0 ≡ wordAt (pieces 56 s) 0 k
-  unfolding number bytesOf
-  word-none zero h = refl
-  word-none (suc zero) h = refl
-  word-none (suc (suc zero)) h = refl
-  word-none (suc (suc (suc zero))) h = refl
-  word-none (suc (suc (suc (suc zero)))) h = refl
-  word-none (suc (suc (suc (suc (suc zero))))) h = refl
-  word-none (suc (suc (suc (suc (suc (suc k)))))) h = absurd (omega arith)
+module _ (row : List ℕ) (bit rows symbol : ℕ) (none : rows < symbol → row ≡ no-row) where
+  pub refusal-none : mask row / 2 ^ bit % 2 ≡ 1 → 0 ≡ refusalAt row bit rows symbol
+  unfolding number
+  refusal-none h = go (ltb rows symbol) refl
+    where
+      go : (b : Bool) → ltb rows symbol ≡ b → 0 ≡ refusalAt row bit rows symbol
+      go true e =
+          let empty : mask row ≡ 0 = ap mask (none (ltb-true rows symbol e)) in
+          let nothing : 0 / 2 ^ bit % 2 ≡ 1 = rw empty at h in
+          absurd (omega (arith, rw zero-div at nothing))
+      go false e = simp (e, eq-eqb (mask row / 2 ^ bit % 2) 1 h)
 
-  pub refusal-past : (symbol k : ℕ) → length s / 56 < symbol → 6 ≡ refusalAt (pieces 56 s) symbol k
-  refusal-past symbol k h = simp (length-cut, lt-ltb (length s / 56) symbol h)
+  pub refusal-past : rows < symbol → 6 ≡ refusalAt row bit rows symbol
+  refusal-past h = simp (lt-ltb rows symbol h)
 
-  module _ (symbol k : ℕ) (row : List ℕ) (low : symbol ≤ length s / 56) (e : row ≡ rowOf (pieces 56 s) symbol) where
-    pub refusal-none : mask row / 2 ^ k % 2 ≡ 1 → 0 ≡ refusalAt (pieces 56 s) symbol k
-    refusal-none h = simp (length-cut, le-ltb (length s / 56) symbol low, ← e, eq-eqb (mask row / 2 ^ k % 2) 1 h)
-
-    pub refusal-absent : (mask row / 2 ^ k % 2 ≡ 1 → ⊥) → 7 ≡ refusalAt (pieces 56 s) symbol k
-    refusal-absent h = simp (length-cut, le-ltb (length s / 56) symbol low, ← e, ne-eqb (mask row / 2 ^ k % 2) 1 h)
+  pub refusal-absent : (mask row / 2 ^ bit % 2 ≡ 1 → ⊥) → symbol ≤ rows → 7 ≡ refusalAt row bit rows symbol
+  refusal-absent z h = simp (le-ltb rows symbol h, ne-eqb (mask row / 2 ^ bit % 2) 1 z)

@@ -1,91 +1,105 @@
-// The values of the symbols: a symbol's row as a part of the table, the value in it that a type uses, and the sums and formulas on it.
+// The value rows, seven u64 each: a mask, then S, G, PLT, T, IE, GD. A symbol's row as a part of the table, and the value in it that a
+// type uses. Nothing else touches a value byte.
+use sizes::*;
 ghost use mathlib.Core.Path.{_≡_};
-ghost use Prim.Native.Nat.{_+_, _/_, _≤_, _<_};
+ghost use Prim.Native.Nat.{_+_, _*_, _≤_, _<_};
 ghost use lib.ListN.{length};
-ghost use Rattle.meaning.specs.Numbers.{pieces};
-ghost use Rattle.meaning.specs.Call.{rowOf};
-ghost use Rattle.values.specs.Values.{refusalAt, wordAt, sumBy, formulaBy};
+ghost use Rattle.meaning.specs.Call.{u64, rowBytes, rowsOf, rowOf, no-row};
+ghost use Rattle.meaning.specs.Checks as C;
+ghost use Rattle.values.specs.Values.{fixedRows, refusalAt, masksAnswer};
 
-// A value row is seven u64: a mask, then S, G, PLT, T, IE, GD.
-pub const ROW: usize = 56;
+// Whether every mask is at most 63, or the first row whose mask is above: refusal 3.
+pub enum Masks {
+    Fit,
+    Above(u32),
+}
 
-// The row of a symbol from 1 up: the part of the table where it stands.
-fn row(values: &[u8], symbol: u64) -> &[u8]
-    requires { ⌜ (1 ≤ symbol) × (symbol ≤ length (now values) / 56) ⌝ }
-    ensures { λ r. ⌜ now r ≡ rowOf (pieces 56 (now (values .entry))) symbol ⌝ }
+// Two rows that stand in no table: symbol 0's, which has S present and 0, and one of nothing for a symbol past the rows.
+pub fn fixed_rows() -> [u8; 112]
+    ensures { λ r. ⌜ r ≡ fixedRows ⌝ }
 {
-    let at = ROW * (symbol as usize - 1);
+    let mut rows = [0u8; 112];
+    rows[0] = 1;
+    rows
+}
+
+// The row of a symbol: the part of the table where it stands, or one of the fixed two.
+pub fn row<'a>(values: &'a [u8], fixed: &'a [u8], symbol: u64) -> &'a [u8]
+    requires { ⌜ now fixed ≡ fixedRows ⌝ }
+    ensures { λ r. ⌜ now r ≡ rowOf (rowsOf (now (values .entry))) symbol ⌝ }
+{
+    if symbol == 0 {
+        return &fixed[0..ROW];
+    }
+    let before = symbol - 1;
+    let rows = (values.len() / ROW) as u64;
+    if rows <= before {
+        return &fixed[ROW..112];
+    }
+    let at = ROW * (before as usize);
     let end = at + ROW;
     &values[at..end]
 }
 
-// Refusal 6 where a symbol has no row, 7 where its value with a mask bit is absent, else 0. Symbol 0 has S present, and nothing else.
-pub fn refusal(values: &[u8], symbol: u64, bit: u32) -> u32
-    requires { ⌜ bit < 6 ⌝ }
-    ensures { λ r. ⌜ r ≡ refusalAt (pieces 56 (now (values .entry))) symbol bit ⌝ }
+// Refusal 7 where the value of a mask bit is absent from the row, or 6 where the symbol has no row, which has nothing present; else 0.
+pub fn refusal(row: &[u8], bit: u32, rows: u64, symbol: u64) -> u32
+    requires { ⌜ (bit < 6) × (length (now row) ≡ rowBytes) × (rows < symbol → now row ≡ no-row) ⌝ }
+    ensures { λ r. ⌜ r ≡ refusalAt (now (row .entry)) bit rows symbol ⌝ }
 {
-    if symbol == 0 {
-        if bit == 0 {
-            return 0;
-        }
-        return 7;
-    }
-    let rows = (values.len() / ROW) as u64;
-    if rows < symbol {
-        return 6;
-    }
-    let mask = bytes_le::get_u64(row(values, symbol), 0);
-    if (mask >> bit) % 2 == 1 { 0 } else { 7 }
-}
-
-// The word of a symbol's row that a mask bit stands for. Symbol 0 has zeros.
-fn raw(values: &[u8], symbol: u64, bit: u32) -> u64
-    requires { ⌜ (symbol ≤ length (now values) / 56) × (bit < 6) ⌝ }
-    ensures { λ r. ⌜ r ≡ wordAt (pieces 56 (now (values .entry))) symbol bit ⌝ }
-{
-    if symbol == 0 {
+    let mask = bytes_le::get_u64(row, 0);
+    if (mask >> bit) % 2 == 1 {
         return 0;
     }
+    if rows < symbol { 6 } else { 7 }
+}
+
+// The word of a row that a mask bit stands for.
+pub fn value(row: &[u8], bit: u32) -> u64
+    requires { ⌜ (bit < 6) × (length (now row) ≡ rowBytes) ⌝ }
+    ensures { λ r. ⌜ r ≡ u64 (now (row .entry)) (8 * (1 + bit)) ⌝ }
+{
     let word = 8 * (1 + bit as usize);
-    bytes_le::get_u64(row(values, symbol), word)
+    bytes_le::get_u64(row, word)
 }
 
-// A value alone, with the addend, or with GP.
-fn sum(kind: u32, addend: u64, gp: u64, x: u64) -> u64
-    ensures { λ r. ⌜ r ≡ sumBy kind addend gp x ⌝ }
+// All the masks or-ed: where that is at most 63, each of them is.
+fn all_masks(values: &[u8]) -> u64
+    ensures { λ r. ⌜ (r ≤ C.maskLimit → C.answer 0 0 ≡ C.first (C.ofMasks 0 (rowsOf (now (values .entry)))) (C.answer 0 0)) ⌝ }
 {
-    match kind {
-        0 => x,
-        1 => numbers::plus(x, addend),
-        _ => numbers::plus(gp, x),
+    let rows = values.len() / ROW;
+    let mut all: u64 = 0;
+    let mut i = 0;
+    while i < rows {
+        let at = ROW * i;
+        all = all | bytes_le::get_u64(values, at);
+        i += 1;
     }
+    all
 }
 
-// A sum itself, or its distance from PC, from PC's page, or from PC with its low 32 bits cleared.
-fn formula(kind: u32, pc: u64, x: u64) -> u64
-    ensures { λ r. ⌜ r ≡ formulaBy kind pc x ⌝ }
+fn first_above(values: &[u8]) -> Masks
+    requires { ⌜ length (now values) ≤ C.valuesLimit ⌝ }
+    ensures { λ r. ⌜ masksAnswer r ≡ C.first (C.ofMasks 0 (rowsOf (now (values .entry)))) (C.answer 0 0) ⌝ }
 {
-    match kind {
-        0 => x,
-        1 => numbers::minus(x, pc),
-        2 => numbers::minus(numbers::cleared(12, x), numbers::cleared(12, pc)),
-        _ => numbers::minus(x, numbers::cleared(32, pc)),
+    let rows = values.len() / ROW;
+    let mut i = 0;
+    while i < rows {
+        let at = ROW * i;
+        if bytes_le::get_u64(values, at) > MASK_LIMIT {
+            return Masks::Above(i as u32);
+        }
+        i += 1;
     }
+    Masks::Fit
 }
 
-// What a type's formula gives at a record: the kinds of its value, sum and formula are those of its row of the table.
-pub fn evaluate(
-    values: &[u8],
-    symbol: u64,
-    bit: u32,
-    plus: u32,
-    less: u32,
-    addend: u64,
-    gp: u64,
-    pc: u64,
-) -> u64
-    requires { ⌜ (symbol ≤ length (now values) / 56) × (bit < 6) ⌝ }
-    ensures { λ r. ⌜ r ≡ formulaBy less pc (sumBy plus addend gp (wordAt (pieces 56 (now (values .entry))) symbol bit)) ⌝ }
+// Refusal 3: the first row whose mask is above 63. It is looked for only where there is one.
+pub fn check_masks(values: &[u8]) -> Masks
+    requires { ⌜ length (now values) ≤ C.valuesLimit ⌝ }
+    ensures { λ r. ⌜ masksAnswer r ≡ C.first (C.ofMasks 0 (rowsOf (now (values .entry)))) (C.answer 0 0) ⌝ }
 {
-    formula(less, pc, sum(plus, addend, gp, raw(values, symbol, bit)))
+    if all_masks(values) <= MASK_LIMIT {
+        return Masks::Fit;
+    }
+    first_above(values)
 }

@@ -1,192 +1,254 @@
--- What the writers leave, over plain numbers, lists and rows. A row is given by its equation with the type's columns.
--- Assumes nothing.
-use Prim.Native.Nat.{ℕ, zero, suc, _+_, _-_, _*_, _/_, _%_, _^_, _≤_, _<_}
-use native.Mathlib.Nat.{not-suc-le-zero, zero-add, div-add-mod'}
+-- What the writers leave, over plain numbers and lists, and what the checks that a judged record passed say. Assumes nothing.
+use Prim.Native.Nat.{ℕ, zero, suc, _+_, _-_, _^_, _≤_, _<_}
+use native.Mathlib.Nat.{add-sub-cancel-left}
 use native.Mathlib.Omega.{arith}
 use mathlib.Core.Bool.{false}
-use mathlib.Core.List.{List, _∷_, _++_, append-nil}
-use mathlib.Core.Path.{_≡_, refl, sym, ap, _∙_, subst, subst⁻¹}
-use borrow.Author.Tests.{ltb-false, le-ltb}
+use mathlib.Core.List.{List, [], map, _∷_, _++_, append-nil}
+use mathlib.Core.Path.{_≡_, refl, sym, ap, _∙_, subst}
+use borrow.Author.Tests.{ltb-false}
 use borrow.Rule.Slice.PartMut.{putMid}
 use lib.Dec.{T, leb, leb→le, eqb·suc-zero}
 use lib.IntN.{ℤ}
-use lib.ListN.{length, take, drop, drop-of-length-le}
+use lib.ListN.{length, take, drop, length-take, drop-of-length-le}
 use lib.Seq.{take-all}
-use Rattle.meaning.proofs.Sound.{sound}
-use Rattle.meaning.specs.Numbers.{number, bytesOf, plus, minus}
-use Rattle.meaning.specs.Table.{Semantics, unnamed, idle, loaders, push, operation, stack, of, word, bytes, add-to, subtract-from, semantics}
-use Rattle.meaning.specs.Call as M
-use Rattle.meaning.specs.Stack.{depth, after}
-use Rattle.meaning.specs.Field.{slice, splice, put}
-use Rattle.meaning.specs.Checks.{answer, ofRecord, outside}
+use lib.Signed.{mag}
+use mir.Syntax.{w64}
+use mir.Val.{toZ, ofZ}
+use mir.ValLaws.{toZ-ofZ}
+use types.Run.{OneOf}
+use Rattle.meaning.specs.Numbers.{number, bytesOf, plus, minus, signed, bitsOf}
+use Rattle.meaning.specs.Table as T
+use Rattle.meaning.specs.Table.{store-in, add-to, subtract-from, Semantics, unnamed, idle, loaders, push, operation, word, bytes, stack, of, Formula, Operation, Accepted, semantics}
+use Rattle.meaning.specs.Call.{card64, offsetIn}
+use Rattle.meaning.specs.Field.{many, slice, splice, put}
+use Rattle.meaning.specs.Stack.{depth, entry, takes, taken, after}
+use Rattle.meaning.specs.Checks.{writes, outside}
 use Rattle.meaning.specs.Patch.{replaced, combined, effect}
-use Rattle.lemmas.specs.First.{Every, Passes, Numbered, zero-passes}
+use Rattle.lemmas.specs.Operations.{refuses-nothing}
+use Rattle.lemmas.specs.Passed.{Passed, not-refused}
 use Rattle.lemmas.specs.Modulo.{bytes-plus, bytes-minus}
-use Rattle.lemmas.specs.Operations.{operationOf}
-use Rattle.stack.specs.Tops.{tops, Puts, operationRefusal, operationStack}
-use Rattle.stack.specs.Laws.{length-tops}
-use Rattle.table.specs.declared.Row.{Row}
-use Rattle.table.specs.Columns.{classOf, partsOf, columns}
-use Rattle.table.specs.Look.{both, sound-at, fits-at}
-use Rattle.table.specs.Laws.{class-push, class-operation, class-stack-word, class-word, class-bytes}
-use Rattle.table.specs.Words.{put-columns}
-use Rattle.steps.specs.Refusal.{refusalOf, low-symbol, refusal-operation}
-use Rattle.steps.specs.Step.{given}
-use Rattle.writers.specs.Written.{Holds, Leaves}
+use Rattle.numbers.specs.Laws.{bits-signed}
+use Rattle.table.specs.declared.Part.{Part}
+use Rattle.table.specs.Columns.{partFrom}
+use Rattle.table.specs.Keys.{Each, at-keys, same-keys, class}
+use Rattle.records.specs.declared.Setting.{Setting}
+use Rattle.records.specs.Given.{asSetting, seen, Here}
+use Rattle.stack.specs.Tops.{tops, Fit, Holds, Passes, operationStack}
+use Rattle.stack.specs.Laws as S
+use Rattle.stack.specs.Laws.{length-tops, drop-tops}
+use Rattle.writers.specs.Written.{InWord, Popping, Popped, Judged, Writes}
 
--- ---- a part of n bytes, read and stored whole
+-- ---- the bytes that are lent
 
-module _ (n : ℕ) (s : List ℕ) (whole : length s ≡ n) where
-  pub read : number (take n s) ≡ number s
-  read = ap number (take-all n s (omega arith))
+-- A part put first, and then the parts after it.
+pub put-part : (p : Part) → InWord p → (ps : List T.Part) (x old : ℕ) {high new : ℕ} → high ≡ splice (p .at) (p .many) (slice (p .low) (p .many) x) old →
+    new ≡ put ps x high → new ≡ put (partFrom p ∷ ps) x old
+unfolding put
+put-part p h ps x old a b = let e : many (partFrom p) ≡ p .many = omega arith in b ∙ rw (a, e)
 
-  pub stored : (x : ℕ) → bytesOf n x ++ drop n s ≡ bytesOf n x
-  stored x = let l : length s ≤ n = omega arith in rw (drop-of-length-le s l, append-nil)
-
--- ---- a row's numbers, and a word by them
-
--- a part of no bits changes nothing
-splice-none : (k l x w : ℕ) → splice k 0 (slice l 0 x) w ≡ w
-splice-none k l x w =
-    let z : slice l 0 x ≡ 0 = omega arith in
-    let e : w / 2 ^ (0 + k) * 2 ^ (0 + k) ≡ w / 2 ^ k * 2 ^ k = ap (λ (m : ℕ). w / 2 ^ m * 2 ^ m) (zero-add k) in
-    let s : w / 2 ^ k * 2 ^ k + w % 2 ^ k ≡ w = div-add-mod' w (2 ^ k) in
-    rw z (omega arith)
-
-module _ (row : Row) (kind : ℕ) (e : row ≡ columns (semantics kind)) where
-  -- both parts of a field lie inside the value and inside the word
-  pub first-fits : (row .low < 64) × (row .many + row .at ≤ 32)
-  first-fits = rw e (omega (arith, fits-at kind .low, fits-at kind .in-word))
-
-  pub second-fits : (row .low2 < 64) × (row .many2 + row .at2 ≤ 32)
-  second-fits = rw e (omega (arith, fits-at kind .low2, fits-at kind .in-word2))
-
-  pub count-fits : row .count ≤ 8
-  count-fits = rw e (fits-at kind .count)
-
-  pub way-fits : row .way ≤ 2
-  way-fits = rw e (fits-at kind .way)
-
-  module _ (x old high : ℕ) (s part : List ℕ) (word : length s ≡ 4) (a : old ≡ number (take 4 s))
-      (b : high ≡ splice (row .at) (row .many) (slice (row .low) (row .many) x) old) where
-    -- two insertions are the field
-    pub two-parts : (new : ℕ) → new ≡ splice (row .at2) (row .many2) (slice (row .low2) (row .many2) x) high →
-        part ≡ bytesOf 4 new ++ drop 4 s → part ≡ bytesOf 4 (put (partsOf (semantics kind)) x (number s))
-    two-parts new c d = d ∙ stored 4 s word new ∙ rw (c, b, a, read 4 s word, e, put-columns kind x (number s))
-
-    -- and so is one where the second part has no bits
-    pub one-part : row .many2 ≡ 0 → part ≡ bytesOf 4 high ++ drop 4 s → part ≡ bytesOf 4 (put (partsOf (semantics kind)) x (number s))
-    one-part none d =
-        two-parts high (rw none (sym (splice-none (row .at2) (row .low2) x high))) d
-
--- ---- data
-
-module _ (n x old : ℕ) (part : List ℕ) (few : n ≤ 8) where
-  pub added : part ≡ bytesOf n (plus 64 x old) → part ≡ bytesOf n (combined add-to n x old)
-  added d =
-      let turned : plus 64 x old ≡ plus 64 old x = omega arith in
-      rw (d, turned, bytes-plus n old x few)
-
-  pub subtracted : (y : ℕ) → y ≡ minus 64 0 x → part ≡ bytesOf n (plus 64 y old) → part ≡ bytesOf n (combined subtract-from n x old)
-  subtracted y h d =
-      let turned : plus 64 (minus 64 0 x) old ≡ minus 64 old x = omega arith in
-      rw (d, h, turned, bytes-minus n old x few)
-
-pub two : (way : ℕ) → way ≤ 2 → (way ≡ 0 → ⊥) → (way ≡ 1 → ⊥) → way ≡ 2
-two zero h a b = absurd (a refl)
-two (suc zero) h a b = absurd (b refl)
-two (suc (suc n)) h a b = omega arith
+-- At most n bytes made anew out of the number that they held.
+pub anew : (n : ℕ) (s : List ℕ) {t : List ℕ} {old new : ℕ} (f : ℕ → ℕ) → length s ≤ n → old ≡ number (take n s) → new ≡ f old →
+    t ≡ bytesOf n new ++ drop n s → t ≡ bytesOf n (f (number s))
+anew n s f few a b e = e ∙ rw (b, a, take-all n s few, drop-of-length-le s few, append-nil)
 
 -- ---- the section
 
--- the n bytes at `at`, lent, and put back with another number
-pub returned : (at n : ℕ) (f : ℕ → ℕ) (s part : List ℕ) → part ≡ bytesOf n (f (number (take (at + n - at) (drop at s)))) →
-    putMid at (at + n - at) s part ≡ replaced at n f s
-returned at n f s part h = let e : at + n - at ≡ n = omega arith in rw (h, e)
+-- The n bytes from `at` on that are lent, and the section when a part is back in their place.
+abbrev lends : ℕ → ℕ → List ℕ → List ℕ
+lends n at s = take (at + n - at) (drop at s)
 
-inside : (size at n : ℕ) → 1 ≤ n → outside size at n ≡ false → at + n ≤ size
-inside size at zero some h = absurd (not-suc-le-zero some)
-inside size at (suc n) some h = ltb-false size (at + suc n) (rw eqb·suc-zero at h)
+abbrev back : ℕ → ℕ → List ℕ → List ℕ → List ℕ
+back n at s part = putMid at (at + n - at) s part
 
--- ---- a record that no check refuses, by the class of its type
+pub lent : (n : ℕ) {at place : ℕ} (f : ℕ → ℕ) (s : List ℕ) {part : List ℕ} → at ≡ place → part ≡ bytesOf n (f (number (lends n at s))) →
+    back n at s part ≡ replaced place n f s
+lent n f s e h = rw (h, add-sub-cancel-left, e)
 
-numbered : (c : M.Setting) (r : M.Record) (d : Semantics) (st : List ℤ) → Every Numbered (ofRecord c 0 r d st)
-numbered c r d st = omega arith
+-- Data: x is the value y. It is stored, or added to what is held, or what it lacks to 2 ^ 64 is added.
+module _ (n : ℕ) {at place x y : ℕ} (s : List ℕ) {part : List ℕ} (e : at ≡ place) (v : x ≡ y) where
+  pub stored : part ≡ bytesOf n x ++ drop n (lends n at s) → back n at s part ≡ replaced place n (combined store-in n y) s
+  stored h =
+      let few : length (lends n at s) ≤ n = simp (add-sub-cancel-left, length-take) (omega arith) in
+      lent n (combined store-in n y) s e (anew n (lends n at s) (combined store-in n y) few refl v h)
 
-module _ (size : ℕ) (values : List ℕ) (address gp : ℕ) (r : M.Record) (st : List ℤ) where
-  abbrev c : M.Setting
-  c = given size values address gp
+  pub added : n ≤ 8 → part ≡ bytesOf n (plus 64 x (number (lends n at s))) → back n at s part ≡ replaced place n (combined add-to n y) s
+  added few h =
+      let old = number (lends n at s) in
+      let turned : plus 64 x old ≡ plus 64 old y = omega arith in
+      lent n (combined add-to n y) s e (h ∙ ap (bytesOf n) turned ∙ bytes-plus n old y few)
 
-  -- the stack after a record and what it writes, by what its type is
-  pub leaving : {d d′ : Semantics} {entries : List ℤ} {h : ℕ} → d ≡ d′ → Holds (after c r d′ st) entries h → Leaves c r d st entries h
-  leaving {entries = entries} {h} e p = subst⁻¹ (λ (x : Semantics). Leaves c r x st entries h) e p
+  pub subtracted : n ≤ 8 → {z : ℕ} → z ≡ minus 64 0 x → part ≡ bytesOf n (plus 64 z (number (lends n at s))) →
+      back n at s part ≡ replaced place n (combined subtract-from n y) s
+  subtracted few {z} m h =
+      let old = number (lends n at s) in
+      let turned : plus 64 z old ≡ minus 64 old y = omega arith in
+      lent n (combined subtract-from n y) s e (h ∙ ap (bytesOf n) turned ∙ bytes-minus n old y few)
 
-  pub writing : (s : List ℕ) {d d′ : Semantics} {t : List ℕ} → d ≡ d′ → t ≡ effect c r d′ st s → t ≡ effect c r d st s
-  writing s {t = t} e p = subst⁻¹ (λ (x : Semantics). t ≡ effect c r x st s) e p
+-- ---- values
 
-  -- a type of no class from 3 on
-  pub others : (d : Semantics) → (classOf d ≡ 3 → ⊥) → (classOf d ≡ 4 → ⊥) → (classOf d ≡ 5 → ⊥) → (classOf d ≡ 6 → ⊥) → (classOf d ≡ 7 → ⊥) →
-      (after c r d st ≡ st) × ((s : List ℕ) → s ≡ effect c r d st s)
-  others unnamed a b e f g = (refl, λ s. refl)
-  others idle a b e f g = (refl, λ s. refl)
-  others loaders a b e f g = (refl, λ s. refl)
-  others (push x) a b e f g = absurd (a refl)
-  others (operation o) a b e f g = absurd (b refl)
-  others (word stack parts range) a b e f g = absurd (e refl)
-  others (word (of x) parts range) a b e f g = absurd (f refl)
-  others (bytes way n x) a b e f g = absurd (g refl)
+-- A signed number that is passed on as its bits.
+pub passed : {z y : ℤ} → mag z < 2 ^ 63 → z ≡ y → toZ w64 (ofZ w64 z) ≡ y
+passed {z} f e = toZ-ofZ w64 z (record { sfits = f }) ∙ e
 
-  module _ (kind : ℕ) (passes : refusalOf c r (semantics kind) st ≡ 0) where
-    abbrev d : Semantics
-    d = semantics kind
+module _ (parts : List T.Part) (rela section : List ℕ) where
+  -- A word with these parts of a value.
+  abbrev written : ℕ → List ℕ
+  written x = replaced (offsetIn card64 rela) 4 (put parts x) section
 
-    checked : {d′ : Semantics} → d ≡ d′ → Every Passes (ofRecord c 0 r d′ st)
-    checked {d′} e =
-        zero-passes (ofRecord c 0 r d′ st) (answer 0 0) (numbered c r d′ st) (subst (λ (x : Semantics). refusalOf c r x st ≡ 0) e passes)
+  -- The value is a formula's.
+  pub of-formula : {section′ : List ℕ} {x y : ℕ} → x < 2 ^ 64 → x ≡ y → section′ ≡ written x → section′ ≡ written (bitsOf 64 (signed 64 y))
+  of-formula {x = x} h e p = p ∙ ap written (sym (bits-signed x h) ∙ ap (λ (z : ℕ). bitsOf 64 (signed 64 z)) e)
 
-    pub push-low : columns d .class ≡ 3 → r .symbol ≤ length values / 56
-    push-low e = low-symbol values (r .symbol) (checked (class-push d e) .1 .1 .0)
+  -- It is taken from the stack.
+  pub of-top : (entries : List ℤ) (height : ℕ) {section′ : List ℕ} {x : ℕ} {z : ℤ} → Popping rela entries height section → mag z < 2 ^ 63 →
+      z ≡ entry (tops entries height) 0 → x ≡ bitsOf 64 (toZ w64 (ofZ w64 z)) → section′ ≡ written x →
+      Popped parts rela entries height section (height - 1) section′
+  of-top entries height h f e b p =
+      record {
+        stack = record { is = sym (drop-tops entries height 1 (h .some)); fit = record { low = omega (arith, h .fit .low); long = h .fit .long } };
+        bytes = p ∙ ap written (b ∙ ap (bitsOf 64) (passed f e));
+      }
 
-    pub push-room : columns d .class ≡ 3 → length st < depth
-    push-room e = ltb-false depth (suc (length st)) (checked (class-push d e) .1 .1 .1 .1 .1 .1 .1 .0)
+-- ---- an arm, by its keys
 
-    pub operation-passes : length st ≤ depth → columns d .class ≡ 4 → operationRefusal (operationOf (columns d .operation)) st ≡ 0
-    unfolding operationRefusal operationStack
-    operation-passes low e =
-        sym (refusal-operation c r st low (operationOf (columns d .operation)))
-        ∙ subst (λ (x : Semantics). refusalOf c r x st ≡ 0) (class-operation d e) passes
+-- n bytes, 1 or more, are inside a section where there was no refusal 8 of as many.
+in-section : (size at n : ℕ) {m : ℕ} → 1 ≤ n → n ≡ m → outside size at m ≡ false → at + n ≤ size
+in-section size at zero some e h = absurd (omega arith)
+in-section size at (suc n) some e h = ltb-false size (at + suc n) (rw eqb·suc-zero at (ap (outside size at) e ∙ h))
 
-    pub stack-word-inside : columns d .class ≡ 5 → r .offset + 4 ≤ size
-    stack-word-inside e = inside size (r .offset) 4 (omega arith) (checked (class-stack-word d e) .1 .1 .1 .1 .0)
+-- A record of a direct type, whose place was looked at.
+pub record Direct : Type 0 where
+  pub setting : Setting
+  pub rela : List ℕ
+  pub row : List ℕ
+  pub section : List ℕ
+  pub type : ℕ
+  pub within : outside (length section) (offsetIn card64 rela) (writes (semantics type)) ≡ false
 
-    pub stack-word-some : columns d .class ≡ 5 → 1 ≤ length st
-    stack-word-some e = ltb-false (length st) 1 (checked (class-stack-word d e) .1 .1 .1 .1 .1 .1 .0)
+module _ (a : Direct) where
+  -- The section after a record of this type.
+  abbrev leaves : ℕ → List ℕ
+  leaves t = effect (asSetting (a .setting)) (seen (a .rela) (a .row)) (semantics t) [] (a .section)
 
-    pub word-low : columns d .class ≡ 6 → r .symbol ≤ length values / 56
-    word-low e = low-symbol values (r .symbol) (checked (class-word d e) .1 .1 .0)
+  -- The bytes that an arm asks for are inside where each of its types writes so many.
+  pub inside : (n : ℕ) (ks : List ℕ) → OneOf ks (a .type) → T (leb 1 n) → map (λ k. n) ks ≡ map (λ k. writes (semantics k)) ks →
+      offsetIn card64 (a .rela) + n ≤ length (a .section)
+  inside n ks key some e =
+      in-section (length (a .section)) (offsetIn card64 (a .rela)) n (leb→le 1 n some) (same-keys (λ k. writes (semantics k)) n ks (a .type) key e) (a .within)
 
-    pub word-inside : columns d .class ≡ 6 → r .offset + 4 ≤ size
-    word-inside e = inside size (r .offset) 4 (omega arith) (checked (class-word d e) .1 .1 .1 .1 .0)
+  -- What it leaves is what each of its types leaves.
+  pub left : (ks : List ℕ) → OneOf ks (a .type) → {s : List ℕ} → Each (λ k. s ≡ leaves k) ks → s ≡ leaves (a .type)
+  left ks key {s} e = at-keys (λ k. s ≡ leaves k) ks (a .type) key e
 
-    pub bytes-low : columns d .class ≡ 7 → r .symbol ≤ length values / 56
-    bytes-low e = low-symbol values (r .symbol) (checked (class-bytes d e) .1 .1 .0)
+  -- A type that does nothing leaves the section.
+  pub nothing : class (semantics (a .type)) ≤ 0 → a .section ≡ leaves (a .type)
+  nothing h = go (semantics (a .type)) h
+    where
+      go : (d : Semantics) → class d ≤ 0 → a .section ≡ effect (asSetting (a .setting)) (seen (a .rela) (a .row)) d [] (a .section)
+      go unnamed h = refl
+      go idle h = refl
+      go loaders h = refl
+      go (push f) h = absurd (omega arith)
+      go (operation o) h = absurd (omega arith)
+      go (word stack parts range) h = absurd (omega arith)
+      go (word (of f) parts range) h = absurd (omega arith)
+      go (bytes way n f) h = absurd (omega arith)
 
-    -- a sound type of this class writes some bytes, so the check of its place holds them inside
-    pub bytes-inside : columns d .class ≡ 7 → r .offset + columns d .count ≤ size
-    unfolding sound
-    bytes-inside e =
-        let n : ℕ = columns d .count in
-        let some : T (leb 1 n) = both (leb 1 n) (leb n 8) (subst (λ (x : Semantics). T (sound x)) (class-bytes d e) (sound-at kind)) .0 in
-        inside size (r .offset) n (leb→le 1 n some) (checked (class-bytes d e) .1 .1 .1 .1 .0)
+-- A record of any type that was judged, with the stack before it.
+pub record Any : Type 0 where
+  pub setting : Setting
+  pub rela : List ℕ
+  pub row : List ℕ
+  pub entries : List ℤ
+  pub height : ℕ
+  pub section : List ℕ
+  pub type : ℕ
+  pub judged : Judged setting rela row (semantics type) entries height section
 
--- ---- the stack
+module _ (a : Any) where
+  abbrev st : List ℤ
+  st = tops (a .entries) (a .height)
 
-pub holding : {st st′ : List ℤ} {entries : List ℤ} {h : ℕ} → st ≡ st′ → Holds st entries h → Holds st′ entries h
-holding {entries = entries} {h} e p = subst (λ (x : List ℤ). Holds x entries h) e p
+  -- What is left by a record of this type: the stack in these entries, and this section.
+  abbrev Leaves : ℕ → List ℤ → ℕ → List ℕ → Type 0
+  Leaves t entries height section =
+      Writes (asSetting (a .setting)) (seen (a .rela) (a .row)) (semantics t) (a .entries) (a .height) (a .section) entries height section
 
--- a push that finds room
-pub put-holds : (s s′ : List ℤ) (h h′ refusal : ℕ) (y v : ℤ) → h < 16 → Puts s h y refusal s′ h′ → y ≡ v → Holds (v ∷ tops s h) s′ h′
-put-holds s s′ h h′ refusal y v room puts e =
-    let few : suc (length (tops s h)) ≤ depth = rw length-tops room in
-    let none : refusal ≡ 0 = puts .answers ∙ rw (le-ltb depth (suc (length (tops s h))) few) in
-    record { is = puts .becomes none ∙ ap (λ (i : ℤ). i ∷ tops s h) e; low = puts .within; long = puts .long }
+  abbrev CheckedAs : Semantics → Type 0
+  CheckedAs d = Passed (asSetting (a .setting)) (seen (a .rela) (a .row)) d st
+
+  checked : CheckedAs (semantics (a .type))
+  checked = not-refused (asSetting (a .setting)) (seen (a .rela) (a .row)) (semantics (a .type)) st (a .judged .passes)
+
+  pub placed : outside (length (a .section)) (offsetIn card64 (a .rela)) (writes (semantics (a .type))) ≡ false
+  placed = ap (λ (size : ℕ). outside size (offsetIn card64 (a .rela)) (writes (semantics (a .type)))) (sym (a .judged .size)) ∙ checked .inside
+
+  kept : Holds st (a .entries) (a .height)
+  kept = record { is = refl; fit = a .judged .fit }
+
+  -- A direct type leaves the stack, and writes what it writes with none.
+  pub direct : class (semantics (a .type)) ≤ 2 → {s : List ℕ} → s ≡ effect (asSetting (a .setting)) (seen (a .rela) (a .row)) (semantics (a .type)) [] (a .section) →
+      Leaves (a .type) (a .entries) (a .height) s
+  direct h {s} e = go (semantics (a .type)) h e
+    where
+      go : (d : Semantics) → class d ≤ 2 → s ≡ effect (asSetting (a .setting)) (seen (a .rela) (a .row)) d [] (a .section) →
+          Writes (asSetting (a .setting)) (seen (a .rela) (a .row)) d (a .entries) (a .height) (a .section) (a .entries) (a .height) s
+      go unnamed h e = record { stack = kept; bytes = e }
+      go idle h e = record { stack = kept; bytes = e }
+      go loaders h e = record { stack = kept; bytes = e }
+      go (push f) h e = absurd (omega arith)
+      go (operation o) h e = absurd (omega arith)
+      go (word stack parts range) h e = absurd (omega arith)
+      go (word (of f) parts range) h e = record { stack = kept; bytes = e }
+      go (bytes way n f) h e = record { stack = kept; bytes = e }
+
+  module _ (k : ℕ) (key : a .type ≡ k) where
+    checked-at : CheckedAs (semantics k)
+    checked-at = subst (λ (t : ℕ). CheckedAs (semantics t)) key checked
+
+    -- A word with the entry on top: the entry and the word's place are there.
+    pub popping : 4 ≡ writes (semantics k) → 1 ≡ taken (semantics k) → Popping (a .rela) (a .entries) (a .height) (a .section)
+    popping four one =
+        record {
+          whole = a .judged .whole .whole;
+          some = rw length-tops at (ltb-false (length st) 1 (rw one (checked-at .enough)));
+          fit = a .judged .fit;
+          inside = in-section (length (a .section)) (offsetIn card64 (a .rela)) 4 (omega arith) four (rw key at placed);
+        }
+
+    pub popped : {parts : List T.Part} {range : Accepted} {height : ℕ} {section : List ℕ} → Popped parts (a .rela) (a .entries) (a .height) (a .section) height section →
+        semantics k ≡ word stack parts range → Leaves (a .type) (a .entries) height section
+    popped p e = rw (key, e) (record { stack = p .stack; bytes = p .bytes })
+
+    -- A push: there is room.
+    pub pushing : {f : Formula} → semantics k ≡ push f → (bit : ℕ) → bit < 6 → Here (a .rela) (a .row) bit × (a .height < depth) × Fit (a .entries) (a .height)
+    pushing e bit h =
+        let p : CheckedAs (push _) = subst CheckedAs e checked-at in (
+          record { whole = a .judged .whole .whole; whole-row = a .judged .whole .whole-row; is-value = h },
+          rw length-tops at (ltb-false depth (suc (length st)) (p .room)),
+          a .judged .fit,
+        )
+
+    -- An operation: it passes.
+    pub operating : {o : Operation} → semantics k ≡ operation o → Passes o (a .entries) (a .height)
+    unfolding operationStack
+    operating {o} e =
+        let p : CheckedAs (operation o) = subst CheckedAs e checked-at in
+        record {
+          fit = a .judged .fit;
+          passes =
+              S.not-refused o st (ltb-false (length st) (takes o) (p .enough)) (ltb-false depth (length (operationStack o st)) (p .room))
+              ∙ refuses-nothing 64 o (entry st 0) (p .count) (p .not-zero);
+        }
+
+    -- Both leave the section.
+    pub stacked : {entries : List ℤ} {height : ℕ} → Holds (after (asSetting (a .setting)) (seen (a .rela) (a .row)) (semantics k) st) entries height →
+        a .section ≡ effect (asSetting (a .setting)) (seen (a .rela) (a .row)) (semantics k) st (a .section) → Leaves (a .type) entries height (a .section)
+    stacked h e = rw key (record { stack = h; bytes = e })
+
+    -- A record that is handed on by its type.
+    pub handing : Judged (a .setting) (a .rela) (a .row) (semantics k) (a .entries) (a .height) (a .section)
+    handing = rw key at (a .judged)
+
+    pub handed : {entries : List ℤ} {height : ℕ} {section : List ℕ} → Leaves k entries height section → Leaves (a .type) entries height section
+    handed w = rw key w

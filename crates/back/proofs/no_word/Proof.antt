@@ -1,21 +1,20 @@
--- `back::no_word` meets its contract: the word types are the classes 5 and 6. Assumes nothing.
+-- `back::no_word` meets its contract: the types in the ranges and between them by computing, those above by the table. Assumes nothing.
 use native.Mathlib.Omega.{arith}
-use Rattle.back.proofs.Laws.{word-class, other-class}
+use mathlib.Core.Bool.{true, false}
+use mathlib.Core.Path.{refl}
+use Rattle.meaning.specs.Table.{table, look}
+use Rattle.table.specs.Keys.{fromUp}
+use Rattle.back.proofs.Laws.{from-to, above-98}
 use Rattle.back.proofs.no_word.Statement.{statement}
 use Rattle.back.proofs.no_word.Tie as tie
 
-returns : tie.Need-returns
-returns c =
-    let a = c .before .before in
-    word-class (a .args .row) (a .args .kind) (a .pre) (omega arith) (omega arith)
-
-returns-2 : tie.Need-returns-2
-returns-2 c = other-class (c .before .args .row) (c .before .args .kind) (c .before .pre) (λ h. omega arith)
-
-returns-3 : tie.Need-returns-3
-returns-3 c =
-    let a = c .before .before in
-    other-class (a .args .row) (a .args .kind) (a .pre) (λ h. omega arith)
-
 pub no-word-spec : {M : Type 1} → statement M
-no-word-spec = tie.close (tie.spec returns returns-2 returns-3)
+unfolding fromUp look table
+no-word-spec =
+    tie.close
+    (tie.spec
+    (λ c. from-to false 38 9 (c .before .before .args .rtype) refl (omega arith) (omega arith))
+    (λ c. from-to false 64 35 (c .before .before .before .before .args .rtype) refl (omega arith) (omega arith))
+    (λ c. from-to true 0 38 (c .before .args .rtype) refl (omega arith) (omega arith))
+    (λ c. from-to true 47 17 (c .before .before .before .args .rtype) refl (omega arith) (omega arith))
+    (λ c. above-98 (c .before .before .before .before .args .rtype) (omega arith)))

@@ -1,69 +1,51 @@
--- `back::value_in` meets its contract, by the range of the type. Assumes nothing.
+-- `back::value_in` meets its contract: an arm's field is that of each of its keys, by computing. Assumes nothing.
 use native.Mathlib.Omega.{arith}
+use mathlib.Core.List.{[], _∷_}
+use mathlib.Core.Path.{refl}
 use borrow.Author.Needs.{needs}
-use Rattle.back.proofs.Laws.{small, signed-asks, multiple-asks, signed-value, multiple-value, plain-value}
+use Rattle.meaning.specs.Table.{table, look}
+use Rattle.meaning.specs.Field.{wide, lowest, bare}
+use Rattle.back.proofs.Laws.{no-zeros, two-zeros, signed-arm, unsigned-arm, left, default-arm}
 use Rattle.back.proofs.value_in.Statement.{statement}
 use Rattle.back.proofs.value_in.Tie as tie
 
-bare-requires : tie.Need-bare-requires
-bare-requires c κs = search needs
-
-signed-at-requires : tie.Need-signed-at-requires
-signed-at-requires c κs =
-    let b = c .before in
-    let a = b .before in
-    signed-asks (a .args .row) (a .args .kind) (a .pre) (a .args .word) (b .bare .result) (b .bare .ensures .0) (b .bare .ensures .1) (c .match .keys1)
-
-mul-signed-at : tie.Need-mul-signed-at
-mul-signed-at c =
-    let b = c .before in
-    let a = b .before in
-    omega (arith, small (a .args .row) (a .args .kind) (a .pre) (a .args .word) (b .bare .result) (b .bare .ensures .0) (b .bare .ensures .1))
-
-signed-at-requires-2 : tie.Need-signed-at-requires-2
-signed-at-requires-2 c κs =
-    let b = c .before in
-    let a = b .before in
-    let asks =
-    multiple-asks (a .args .row) (a .args .kind) (a .pre) (a .args .word) (b .bare .result) (b .bare .ensures .0) (b .bare .ensures .1) (c .match .keys2) in
-    (asks .0, omega (arith, asks .1))
-
-cast-result : tie.Need-cast-result
-cast-result c =
-    let b = c .before in
-    let a = b .before in
-    omega (arith, small (a .args .row) (a .args .kind) (a .pre) (a .args .word) (b .bare .result) (b .bare .ensures .0) (b .bare .ensures .1))
-
-returns : tie.Need-returns
-returns c =
-    let b = c .before .before in
-    let a = b .before in
-    signed-value (a .args .row) (a .args .kind) (a .pre) (a .args .word) (b .bare .result) (b .bare .ensures .0) (b .bare .ensures .1)
-    (c .before .match .keys1) (c .signed-at .result) (c .signed-at .ok) (c .signed-at .ensures)
-
-returns-2 : tie.Need-returns-2
-returns-2 c =
-    let b = c .before .before in
-    let a = b .before in
-    multiple-value (a .args .row) (a .args .kind) (a .pre) (a .args .word) (b .bare .result) (b .bare .ensures .0) (b .bare .ensures .1)
-    (c .before .match .keys2) (c .signed-at2 .result) (c .signed-at2 .ok) (c .signed-at2 .ensures)
-
-returns-3 : tie.Need-returns-3
-returns-3 c =
-    let b = c .before in
-    let a = b .before in
-    plain-value (a .args .row) (a .args .kind) (a .pre) (a .args .word) (b .bare .result) (b .bare .ensures .0) (b .bare .ensures .1)
-    (c .match .rest .0 .1) (c .match .rest .1)
-
 pub value-in-spec : {M : Type 1} → statement M
+unfolding table look bare wide lowest
 value-in-spec =
     tie.close
     (tie.spec
-    bare-requires
-    signed-at-requires
-    mul-signed-at
-    signed-at-requires-2
-    cast-result
-    returns
-    returns-2
-    returns-3)
+    -- what the calls of each arm ask
+    (λ c κs. search needs) (λ c κs. search needs)
+    (λ c κs. search needs) (λ c. search needs)
+    (λ c κs. search needs) (λ c κs. search needs)
+    (λ c κs. search needs) (λ c κs. search needs)
+    (λ c κs. search needs) (λ c. search needs) (λ c κs. search needs)
+    (λ c κs. search needs) (λ c κs. search needs)
+    (λ c κs. search needs) (λ c. search needs) (λ c κs. search needs)
+    (λ c κs. search needs) (λ c. search needs) (λ c κs. search needs)
+    (λ c κs. search needs) (λ c. search needs)
+    (λ c κs. search needs) (λ c. search needs)
+    (λ c κs. search needs) (λ c. search needs)
+    -- what each arm gives
+    (λ c. let m = c .before .before in signed-arm (m .before .args .word) (m .before .args .rtype) (38 ∷ []) (m .match .keys1)
+    (no-zeros (c .before .bare .ensures .is)) 5 (c .signed-at .ensures) (c .signed-at .ok) refl)
+    (λ c. let m = c .before in unsigned-arm (m .before .args .word) (m .before .args .rtype) (39 ∷ []) (m .match .keys2)
+    (no-zeros (c .bare2 .ensures .is)) (omega arith) refl)
+    (λ c. let m = c .before .before in signed-arm (m .before .args .word) (m .before .args .rtype) (40 ∷ []) (m .match .keys3)
+    (no-zeros (c .before .bare3 .ensures .is)) 12 (c .signed-at2 .ensures) (c .signed-at2 .ok) refl)
+    (λ c. let m = c .before .before in signed-arm (m .before .args .word) (m .before .args .rtype) (41 ∷ []) (m .match .keys4)
+    (no-zeros (c .before .bare4 .ensures .is)) 16 (c .signed-at3 .ensures) (c .signed-at3 .ok) refl)
+    (λ c. let m = c .before .before in signed-arm (m .before .args .word) (m .before .args .rtype) (42 ∷ 64 ∷ []) (m .match .keys5)
+    (two-zeros (c .before .bare5 .ensures .is)) 18 (c .signed-at4 .ensures) (c .signed-at4 .ok) refl)
+    (λ c. let m = c .before .before in signed-arm (m .before .args .word) (m .before .args .rtype) (43 ∷ []) (m .match .keys6)
+    (no-zeros (c .before .bare6 .ensures .is)) 20 (c .signed-at5 .ensures) (c .signed-at5 .ok) refl)
+    (λ c. let m = c .before .before in signed-arm (m .before .args .word) (m .before .args .rtype) (44 ∷ 65 ∷ []) (m .match .keys7)
+    (two-zeros (c .before .bare-of-two .ensures .is)) 23 (c .signed-at6 .ensures) (c .signed-at6 .ok) refl)
+    (λ c. let m = c .before .before in signed-arm (m .before .args .word) (m .before .args .rtype) (45 ∷ 66 ∷ []) (m .match .keys8)
+    (two-zeros (c .before .bare-of-two2 .ensures .is)) 28 (c .signed-at7 .ensures) (c .signed-at7 .ok) refl)
+    (λ c. let m = c .before in unsigned-arm (m .before .args .word) (m .before .args .rtype) (46 ∷ []) (m .match .keys9)
+    (no-zeros (c .bare7 .ensures .is)) (omega arith) refl)
+    (λ c. let m = c .before in unsigned-arm (m .before .args .word) (m .before .args .rtype)
+    (68 ∷ 70 ∷ 72 ∷ 74 ∷ 76 ∷ 78 ∷ 80 ∷ 82 ∷ 84 ∷ 86 ∷ 88 ∷ 90 ∷ 92 ∷ 94 ∷ []) (m .match .keys10) (c .bare8 .ensures .is) (omega arith) refl)
+    (λ c. let m = c .before in unsigned-arm (m .before .args .word) (m .before .args .rtype) left
+    (default-arm (m .before .args .rtype) (m .before .pre) (m .match .rest)) (c .bare9 .ensures .is) (omega arith) refl))

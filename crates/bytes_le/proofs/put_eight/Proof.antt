@@ -2,9 +2,6 @@ use Rattle.bytes_le.proofs.Laws.{halves-stored}
 use borrow.Author.Needs.{needs}
 use Rattle.bytes_le.proofs.put_eight.Statement.{statement}
 use Rattle.bytes_le.proofs.put_eight.Tie as tie
-use Rattle.bytes_le.proofs.put_eight.Reads as reads
-use Rattle.bytes_le.proofs.put_eight.Lts as lts
-use Rattle.bytes_le.proofs.put_four.Reads as put-four-reads
 
 put-four-requires : tie.Need-put-four-requires
 put-four-requires c κs = search needs

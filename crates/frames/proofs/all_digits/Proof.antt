@@ -8,9 +8,6 @@ use Rattle.meaning.specs.Frames.{allDigits}
 use Rattle.frames.proofs.Laws.{more-digits, done-digits}
 use Rattle.frames.proofs.all_digits.Statement.{statement}
 use Rattle.frames.proofs.all_digits.Tie as tie
-use Rattle.frames.proofs.all_digits.Reads as reads
-use Rattle.frames.proofs.all_digits.Lts as lts
-use Rattle.frames.proofs.is_digit.Reads as is-digit-reads
 
 abbrev Inv-loop : tie.InvT-loop
 Inv-loop piece all₀ i₀ all i = (i ≤ length piece) × (allDigits piece ≡ (all && allDigits (drop i piece)))

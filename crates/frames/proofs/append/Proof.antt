@@ -10,10 +10,6 @@ use Rattle.frames.specs.Text.{laid}
 use Rattle.frames.proofs.Laws.{digits-at, digits-part, piece-length, length-laid, part-laid, append-eight, append-more, append-done}
 use Rattle.frames.proofs.append.Statement.{statement}
 use Rattle.frames.proofs.append.Tie as tie
-use Rattle.frames.proofs.append.Reads as reads
-use Rattle.frames.proofs.append.Lts as lts
-use Rattle.frames.proofs.byte.Reads as byte-reads
-use Rattle.frames.proofs.eight.Reads as eight-reads
 
 -- between two bytes: the digits that are left have room, and with them it is what it was with all
 abbrev Left : List ℕ → List ℕ → ℕ → ℕ → List ℕ → ℕ → ℕ → Type 0

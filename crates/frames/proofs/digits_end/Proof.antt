@@ -9,10 +9,6 @@ use Rattle.frames.specs.Text.{digitsLength}
 use Rattle.frames.proofs.Laws.{digit-here, no-digit-here, no-digits-here}
 use Rattle.frames.proofs.digits_end.Statement.{statement}
 use Rattle.frames.proofs.digits_end.Tie as tie
-use Rattle.frames.proofs.digits_end.Reads as reads
-use Rattle.frames.proofs.digits_end.Lts as lts
-use Rattle.frames.proofs.is_digit.Reads as is-digit-reads
-use Rattle.frames.proofs.pieces_end.Reads as pieces-end-reads
 
 abbrev Inv-loop : tie.InvT-loop
 Inv-loop input at end₀ end = (end ≤ length input) × (at + digitsLength (drop at input) ≡ end + digitsLength (drop end input))

@@ -8,10 +8,6 @@ use Rattle.frames.specs.Text.{laid}
 use Rattle.frames.proofs.Laws.{Paired, paired-more, pair-digits, pair-byte, laid-whole, length-bytes, append-more, append-done}
 use Rattle.frames.proofs.eight.Statement.{statement}
 use Rattle.frames.proofs.eight.Tie as tie
-use Rattle.frames.proofs.eight.Reads as reads
-use Rattle.frames.proofs.eight.Lts as lts
-use Rattle.frames.proofs.byte_of.Reads as byte-of-reads
-use Rattle.frames.proofs.pair.Reads as pair-reads
 
 abbrev Inv-loop : tie.InvT-loop
 Inv-loop digits bytes pairs₀ i₀ pairs i = (i ≤ 8) × (length pairs ≡ 8) × Paired digits pairs i

@@ -2,8 +2,6 @@ use borrow.Author.Tests.{ne-eqb, le-leb, lt-leb}
 use Rattle.meaning.specs.Frames.{follows}
 use Rattle.frames.proofs.follows.Statement.{statement}
 use Rattle.frames.proofs.follows.Tie as tie
-use Rattle.frames.proofs.follows.Reads as reads
-use Rattle.frames.proofs.follows.Lts as lts
 
 returns : tie.Need-returns
 unfolding follows

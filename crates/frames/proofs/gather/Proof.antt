@@ -6,10 +6,6 @@ use lib.ListN.{length}
 use Rattle.frames.proofs.Reader.{Sizes, sizes, bounds, last-kind, gathers-numbers, gathers-section, gathers-values, gathers-records}
 use Rattle.frames.proofs.gather.Statement.{statement}
 use Rattle.frames.proofs.gather.Tie as tie
-use Rattle.frames.proofs.gather.Reads as reads
-use Rattle.frames.proofs.gather.Lts as lts
-use Rattle.frames.proofs.append.Reads as append-reads
-use Rattle.frames.proofs.number.Reads as number-reads
 
 -- the frame has the size of its kind
 size : (b : tie.Start) → Sizes (b .args .kind) ((length (b .args .line .now) - 2) / 2)

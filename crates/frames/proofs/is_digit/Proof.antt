@@ -2,9 +2,6 @@ use borrow.Author.Needs.{needs}
 use Rattle.frames.proofs.Laws.{tests}
 use Rattle.frames.proofs.is_digit.Statement.{statement}
 use Rattle.frames.proofs.is_digit.Tie as tie
-use Rattle.frames.proofs.is_digit.Reads as reads
-use Rattle.frames.proofs.is_digit.Lts as lts
-use Rattle.frames.proofs.within.Reads as within-reads
 
 within-requires : tie.Need-within-requires
 within-requires c κs = search needs

@@ -5,11 +5,6 @@ use borrow.Author.Tests.{not-true, not-false}
 use Rattle.frames.proofs.Laws.{digits-at, no-kind, odd-digit, no-frame, not-sized, not-following, its-kind}
 use Rattle.frames.proofs.kind_of.Statement.{statement}
 use Rattle.frames.proofs.kind_of.Tie as tie
-use Rattle.frames.proofs.kind_of.Reads as reads
-use Rattle.frames.proofs.kind_of.Lts as lts
-use Rattle.frames.proofs.byte.Reads as byte-reads
-use Rattle.frames.proofs.follows.Reads as follows-reads
-use Rattle.frames.proofs.sized.Reads as sized-reads
 
 returns : tie.Need-returns
 returns c = let a = c .before .before .args in no-kind (a .last) (a .line .now) (odd-digit (a .last) (a .line .now) (c .before .before .pre) (c .if1 .taken))

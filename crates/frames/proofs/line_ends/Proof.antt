@@ -2,8 +2,6 @@ use borrow.Author.Needs.{needs}
 use Rattle.frames.proofs.Laws.{feed-test, no-line-here}
 use Rattle.frames.proofs.line_ends.Statement.{statement}
 use Rattle.frames.proofs.line_ends.Tie as tie
-use Rattle.frames.proofs.line_ends.Reads as reads
-use Rattle.frames.proofs.line_ends.Lts as lts
 
 shared-slice-read-result : tie.Need-shared-slice-read-result
 shared-slice-read-result c = search needs

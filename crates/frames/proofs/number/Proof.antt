@@ -8,9 +8,6 @@ use Rattle.meaning.specs.Frames.{digit, numeral}
 use Rattle.frames.proofs.Laws.{digits-at, numeral-start, numeral-next, numeral-done, digit-room, digit-fits}
 use Rattle.frames.proofs.number.Statement.{statement}
 use Rattle.frames.proofs.number.Tie as tie
-use Rattle.frames.proofs.number.Reads as reads
-use Rattle.frames.proofs.number.Lts as lts
-use Rattle.frames.proofs.value.Reads as value-reads
 
 abbrev Inv-loop : tie.InvT-loop
 Inv-loop line at x₀ i₀ x i = (i ≤ 16) × (numeral 0 (take 16 (drop at line)) ≡ numeral x (take (16 - i) (drop (at + i) line))) × (x < 2 ^ (4 * i))

@@ -8,8 +8,6 @@ use lib.Dec.{ltb}
 use borrow.Author.Tests.{eq-eqb, ne-eqb, ltb-true, ltb-false, lt-ltb, le-ltb}
 use Rattle.frames.proofs.past.Statement.{statement}
 use Rattle.frames.proofs.past.Tie as tie
-use Rattle.frames.proofs.past.Reads as reads
-use Rattle.frames.proofs.past.Lts as lts
 
 -- less room than bytes: past the limit
 no-room : (limit used n : ℕ) → used ≤ limit → ltb (limit - used) n ≡ ltb limit (used + n)

@@ -8,9 +8,6 @@ use Rattle.frames.specs.Text.{digitsLength}
 use Rattle.frames.proofs.Laws.{piece-digits}
 use Rattle.frames.proofs.pieces_end.Statement.{statement}
 use Rattle.frames.proofs.pieces_end.Tie as tie
-use Rattle.frames.proofs.pieces_end.Reads as reads
-use Rattle.frames.proofs.pieces_end.Lts as lts
-use Rattle.frames.proofs.all_digits.Reads as all-digits-reads
 
 abbrev Inv-loop : tie.InvT-loop
 Inv-loop input at end₀ end = (end ≤ length input) × (at + digitsLength (drop at input) ≡ end + digitsLength (drop end input))

@@ -6,21 +6,15 @@ use native.Mathlib.Omega.{arith}
 use mathlib.Core.Path.{_≡_, sym, _∙_}
 use borrow.Author.Tests.{not-true, not-false, eqb-true, eqb-false}
 use lib.ListN.{length, drop}
+use Rattle.meaning.specs.Call.{card64}
+use Rattle.meaning.specs.Checks.{sectionLimit, valuesLimit}
 use Rattle.meaning.specs.Frames.{readingOf}
 use Rattle.frames.specs.Text.{lineLength}
-use Rattle.frames.specs.Gathered.{readingIn, Filled, gatheredWith}
+use Rattle.frames.specs.Gathered.{readingIn, Filled, Within, gatheredWith}
 use Rattle.frames.proofs.Laws.{line-is, line-digits}
-use Rattle.frames.proofs.Reader.{Frame, frame-of, long, between, Within, within, State, Answered, start, stopped, ended, nothing-read, bad-here, broken-here, past-here, next}
+use Rattle.frames.proofs.Reader.{Frame, frame-of, long, between, within, State, Answered, start, stopped, ended, nothing-read, bad-here, broken-here, past-here, next}
 use Rattle.frames.proofs.read.Statement.{statement}
 use Rattle.frames.proofs.read.Tie as tie
-use Rattle.frames.proofs.read.Reads as reads
-use Rattle.frames.proofs.read.Lts as lts
-use Rattle.frames.proofs.Gathered.over.Reads as over-reads
-use Rattle.frames.proofs.Gathered.refused.Reads as refused-reads
-use Rattle.frames.proofs.digits_end.Reads as digits-end-reads
-use Rattle.frames.proofs.kind_of.Reads as kind-of-reads
-use Rattle.frames.proofs.line_ends.Reads as line-ends-reads
-use Rattle.frames.proofs.gather.Reads as gather-reads
 
 abbrev Inv-loop : tie.InvT-loop
 Inv-loop input section₀ values₀ records₀ got₀ last₀ lines₀ at₀ section values records got last lines at = State input section₀ values₀ records₀ section values records got last lines at
@@ -30,7 +24,7 @@ abbrev μ-loop : tie.MeasureT-loop
 
 -- the clauses of the contract, as the check asks for them
 answered : {input s₀ v₀ q₀ s v q : List ℕ} {r : Gathered} → Answered input s₀ v₀ q₀ s v q r →
-    (readingIn r s v q ≡ readingOf input) × (Filled 65536 (r .section) s₀ s × (Filled 57344 (r .values) v₀ v × Filled 49152 (r .records) q₀ q))
+    (readingIn r s v q ≡ readingOf input) × (Filled sectionLimit (r .section) s₀ s × (Filled valuesLimit (r .values) v₀ v × Filled (card64 .recordsLimit) (r .records) q₀ q))
 answered h = (h .is, (h .section, (h .values, h .records)))
 
 -- the text, from the loop's head; a turn's loop, from its places

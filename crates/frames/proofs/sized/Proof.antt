@@ -2,8 +2,6 @@ use borrow.Author.Tests.{ne-eqb, le-leb, lt-leb}
 use Rattle.meaning.specs.Frames.{sized}
 use Rattle.frames.proofs.sized.Statement.{statement}
 use Rattle.frames.proofs.sized.Tie as tie
-use Rattle.frames.proofs.sized.Reads as reads
-use Rattle.frames.proofs.sized.Lts as lts
 
 returns : tie.Need-returns
 unfolding sized

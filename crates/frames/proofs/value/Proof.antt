@@ -2,8 +2,6 @@ use borrow.Author.Needs.{needs}
 use Rattle.frames.proofs.Laws.{value-low, value-high}
 use Rattle.frames.proofs.value.Statement.{statement}
 use Rattle.frames.proofs.value.Tie as tie
-use Rattle.frames.proofs.value.Reads as reads
-use Rattle.frames.proofs.value.Lts as lts
 
 returns : tie.Need-returns
 returns c = value-low (c .before .args .digit) (c .before .pre) (c .if1 .taken)

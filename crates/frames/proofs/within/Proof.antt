@@ -1,8 +1,6 @@
 use borrow.Author.Tests.{lt-leb, le-leb}
 use Rattle.frames.proofs.within.Statement.{statement}
 use Rattle.frames.proofs.within.Tie as tie
-use Rattle.frames.proofs.within.Reads as reads
-use Rattle.frames.proofs.within.Lts as lts
 
 returns : tie.Need-returns
 returns c = simp (lt-leb (c .before .args .low) (c .before .args .b) (c .if1 .taken))

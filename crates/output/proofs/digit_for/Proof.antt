@@ -3,8 +3,6 @@ use borrow.Author.Tests.{lt-ltb, le-ltb}
 use Rattle.meaning.specs.Frames.{digitFor}
 use Rattle.output.proofs.digit_for.Statement.{statement}
 use Rattle.output.proofs.digit_for.Tie as tie
-use Rattle.output.proofs.digit_for.Reads as reads
-use Rattle.output.proofs.digit_for.Lts as lts
 
 add-result : tie.Need-add-result
 add-result c = search needs

@@ -8,10 +8,6 @@ use Rattle.frames.specs.Text.{laid}
 use Rattle.output.proofs.Writer.{bytes-more, bytes-done}
 use Rattle.output.proofs.put_bytes.Statement.{statement}
 use Rattle.output.proofs.put_bytes.Tie as tie
-use Rattle.output.proofs.put_bytes.Reads as reads
-use Rattle.output.proofs.put_bytes.Lts as lts
-use Rattle.output.proofs.put_digits.Reads as put-digits-reads
-use Rattle.output.proofs.wide.Reads as wide-reads
 
 abbrev Inv-loop : tie.InvT-loop
 Inv-loop out₀ at bytes to₀ i₀ out to i = (i ≤ length bytes) × (to ≡ at + 2 * i) × (length out ≡ length out₀) × (laid at (digitsOf bytes) out₀ ≡ laid to (digitsOf (drop i bytes)) out)

@@ -8,9 +8,6 @@ use Rattle.frames.specs.Text.{laid}
 use Rattle.output.proofs.Writer.{digits-more, digits-done}
 use Rattle.output.proofs.put_digits.Statement.{statement}
 use Rattle.output.proofs.put_digits.Tie as tie
-use Rattle.output.proofs.put_digits.Reads as reads
-use Rattle.output.proofs.put_digits.Lts as lts
-use Rattle.output.proofs.digit_for.Reads as digit-for-reads
 
 abbrev Inv-loop : tie.InvT-loop
 Inv-loop out₀ at n x to₀ left₀ out to left = (to + left ≡ at + n) × (left ≤ n) × (length out ≡ length out₀) × (laid at (digits n x) out₀ ≡ laid to (digits left x) out)

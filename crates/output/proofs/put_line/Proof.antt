@@ -4,10 +4,6 @@ use lib.ListN.{length-set}
 use Rattle.output.proofs.Writer.{line-whole, line-put}
 use Rattle.output.proofs.put_line.Statement.{statement}
 use Rattle.output.proofs.put_line.Tie as tie
-use Rattle.output.proofs.put_line.Reads as reads
-use Rattle.output.proofs.put_line.Lts as lts
-use Rattle.output.proofs.put_bytes.Reads as put-bytes-reads
-use Rattle.output.proofs.put_digits.Reads as put-digits-reads
 
 put-digits-requires : tie.Need-put-digits-requires
 put-digits-requires c κs = search needs

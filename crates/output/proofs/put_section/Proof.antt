@@ -11,10 +11,6 @@ use Rattle.frames.proofs.Laws.{laid-none}
 use Rattle.output.proofs.Writer.{section-length, section-laid, section-end}
 use Rattle.output.proofs.put_section.Statement.{statement}
 use Rattle.output.proofs.put_section.Tie as tie
-use Rattle.output.proofs.put_section.Reads as reads
-use Rattle.output.proofs.put_section.Lts as lts
-use Rattle.output.proofs.piece_end.Reads as piece-end-reads
-use Rattle.output.proofs.put_line.Reads as put-line-reads
 
 abbrev Inv-loop : tie.InvT-loop
 Inv-loop out₀ at section to₀ from₀ out to from = (from ≤ length section) × (length out ≡ length out₀) × (to + length (sectionLines (drop from section)) ≡ at + length (sectionLines section)) × (laid at (sectionLines section) out₀ ≡ laid to (sectionLines (drop from section)) out)

@@ -8,10 +8,6 @@ use Rattle.meaning.specs.Frames.{digits, line-feed, sectionLines}
 use Rattle.output.proofs.Writer.{length-digits, section-fits, Front, front-none, front-more, front-feed, front-all, accepted-is, refused-is}
 use Rattle.output.proofs.write.Statement.{statement}
 use Rattle.output.proofs.write.Tie as tie
-use Rattle.output.proofs.write.Reads as reads
-use Rattle.output.proofs.write.Lts as lts
-use Rattle.output.proofs.put_digits.Reads as put-digits-reads
-use Rattle.output.proofs.put_section.Reads as put-section-reads
 
 put-digits-requires : tie.Need-put-digits-requires
 put-digits-requires c κs = search needs

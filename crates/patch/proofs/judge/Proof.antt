@@ -2,127 +2,138 @@ use borrow.Author.Needs.{needs}
 use Prim.Native.Nat.{ℕ, _-_, _/_, _≤_, _<_}
 use native.Mathlib.Omega.{arith}
 use mathlib.Core.List.{List}
-use mathlib.Core.Path.{_≡_, refl, sym, _∙_, subst, subst⁻¹}
+use mathlib.Core.Path.{_≡_, refl, sym, ap, _∙_, subst}
 use lib.ListN.{length}
-use Rattle.meaning.specs.Table.{semantics}
-use Rattle.meaning.specs.Call.{Setting, Record, recordOf}
-use Rattle.lemmas.specs.Pieces.{piece}
-use Rattle.stack.specs.Tops.{tops}
-use Rattle.steps.specs.Step.{given, Steps}
-use Rattle.patch.proofs.Laws.{Going, going-start, stops-here, goes-on, ends-left, ends-accepted}
+use Rattle.meaning.specs.Call.{Call, Record, card64, does}
+use Rattle.meaning.specs.Checks.{answer}
+use Rattle.stack.specs.Tops.{judgedNumber, Stands}
+use Rattle.steps.specs.Step.{Steps}
+use Rattle.records.specs.Given.{asSetting, given}
+use Rattle.patch.proofs.Laws.{Turn, turn, record-whole, recordAt, doing, Going, going-start, stops-here, goes-on, ends-left, ends-accepted}
 use Rattle.patch.proofs.judge.Statement.{statement}
 use Rattle.patch.proofs.judge.Tie as tie
-use Rattle.patch.proofs.judge.Reads as reads
-use Rattle.patch.proofs.judge.Lts as lts
-use Rattle.stack.proofs.Stack.empty.Reads as empty-reads
-use Rattle.patch.proofs.record_at.Reads as record-at-reads
-use Rattle.steps.proofs.step.Reads as step-reads
 
 abbrev Inv-loop : tie.InvT-loop
-Inv-loop rows records values setting count entries₀ stack₀ i₀ entries stack i =
-    (count ≡ length records / 24) × Going (given (setting .size) values (setting .address) (setting .gp)) records entries (stack .height) i
+Inv-loop records values fixed setting count entries₀ stack₀ i₀ entries stack i = (count ≡ length records / card64 .recordBytes) × Going (given setting values) records entries (stack .height) i
 
 abbrev μ-loop : tie.MeasureT-loop
-μ-loop rows records values setting count entries₀ stack₀ i₀ entries stack i = count - i
+μ-loop records values fixed setting count entries₀ stack₀ i₀ entries stack i = count - i
 
--- at the loop's head: the function's start, what a call gives to its records, and the record bytes
+-- at the loop's head: the function's start, the call, and the record bytes
 abbrev begun : tie.At-loop Inv-loop μ-loop → tie.Start Inv-loop μ-loop
 begun l = l .before .before .before .before
 
-abbrev call : tie.Start Inv-loop μ-loop → Setting
-call b = given (b .args .setting .size) (b .args .values .now) (b .args .setting .address) (b .args .setting .gp)
+abbrev call : tie.Start Inv-loop μ-loop → Call
+call b = given (b .args .setting) (b .args .values .now)
 
 abbrev bytes : tie.Start Inv-loop μ-loop → List ℕ
 bytes b = b .args .records .now
 
-few : (b : tie.Start Inv-loop μ-loop) → length (bytes b) ≤ 49152
-few b = b .pre .1
+few : (b : tie.Start Inv-loop μ-loop) → length (bytes b) ≤ card64 .recordsLimit
+few b = b .pre .0
 
--- in a turn: its record is the list's, and its step
-more : (c : tie.In-loop Inv-loop μ-loop) → c .before .loop .i < length (bytes (begun (c .before))) / 24
-more c = c .loop-test .taken
+-- in a turn: the record and its row, and the record's step
+more : (c : tie.In-loop Inv-loop μ-loop) → c .before .loop .i < length (bytes (begun (c .before))) / card64 .recordBytes
+more c = subst (λ (n : ℕ). c .before .loop .i < n) (c .before .loop .inv .0) (c .loop-test .taken)
+
+abbrev turning : tie.After-row Inv-loop μ-loop → tie.In-loop Inv-loop μ-loop
+turning r = r .before .before .before .before
+
+looked : (r : tie.After-row Inv-loop μ-loop) →
+    let l = turning r .before in
+    let b = begun l in
+    Turn (b .args .setting) (bytes b) (b .args .values .now) (r .before .before .before .record-at .result .now) (r .row .result .now) (l .loop .i)
+looked r =
+    let l = turning r .before in
+    let b = begun l in
+    turn (b .args .setting) (bytes b) (b .args .values .now) (r .before .before .before .record-at .result .now) (r .row .result .now) (l .loop .i) (r .before .symbol .result)
+    (b .pre .2) (more (turning r)) (r .before .before .before .record-at .ensures) (r .before .symbol .ensures) (r .row .ensures)
 
 stepped : (c : tie.After-step Inv-loop μ-loop) →
-    let l = c .before .before .before .before in
-    let r = recordOf (piece 24 (bytes (begun l)) (l .loop .i)) in
-    Steps (call (begun l)) r (semantics (r .type)) (tops (l .loop .entries) (l .loop .stack .height)) (c .step .last .1 .1 .1 .1 .0) (c .step .result)
+    let l = turning (c .before .before) .before in
+    let b = begun l in
+    Steps (asSetting (b .args .setting)) (recordAt (call b) (bytes b) (l .loop .i)) (doing (call b) (bytes b) (l .loop .i)) (l .loop .entries) (l .loop .stack .height)
+    (c .step .last .1 .1 .1 .0) (c .step .result)
 stepped c =
-    let l = c .before .before .before .before in
-    subst (λ (x : Record). Steps (call (begun l)) x (semantics (x .type)) (tops (l .loop .entries) (l .loop .stack .height))
-    (c .step .last .1 .1 .1 .1 .0) (c .step .result)) (c .before .before .record-at .ensures) (c .step .ensures)
+    let l = turning (c .before .before) .before in
+    let b = begun l in
+    subst (λ (x : Record). Steps (asSetting (b .args .setting)) x (does (asSetting (b .args .setting)) x) (l .loop .entries) (l .loop .stack .height) (c .step .last .1 .1 .1 .0) (c .step .result))
+    (looked (c .before .before) .is) (c .step .ensures)
 
 empty-requires : tie.Need-empty-requires Inv-loop μ-loop
 empty-requires c κs = search needs
 
 loop-holds : tie.Need-loop-holds Inv-loop μ-loop
-loop-holds c =
-    let b = c .before .before .before in
-    (refl, subst⁻¹ (λ (h : ℕ). Going (call b) (bytes b) _ h 0) (c .empty .ensures) (going-start (call b) (bytes b) _ refl))
+loop-holds c = let b = c .before .before .before in (refl, going-start (call b) (bytes b) _ _ refl (c .empty .ensures))
 
 record-at-requires : tie.Need-record-at-requires Inv-loop μ-loop
 record-at-requires c κs = (more c, few (begun (c .before)))
 
-step-requires : tie.Need-step-requires Inv-loop μ-loop
-step-requires c κs =
-    let l = c .before .before .before in
-    (begun l .pre .0, (l .loop .inv .1 .low, l .loop .inv .1 .long))
+symbol-requires : tie.Need-symbol-requires Inv-loop μ-loop
+symbol-requires c κs = let r = c .before in record-whole _ _ _ (more (r .before)) (r .record-at .ensures)
 
-cast-t15 : tie.Need-cast-t15 Inv-loop μ-loop
-cast-t15 c =
-    let l = c .before .before .before .before .before .before in
-    omega (arith, few (begun l))
+row-requires : tie.Need-row-requires Inv-loop μ-loop
+row-requires c κs = begun (c .before .before .before .before) .pre .1
+
+step-requires : tie.Need-step-requires Inv-loop μ-loop
+step-requires c κs = let r = c .before in (looked r .ready, turning r .before .loop .inv .1 .fit)
+
+enum-known-judged : tie.Need-enum-known-judged Inv-loop μ-loop
+enum-known-judged c = search needs
+
+cast-t20 : tie.Need-cast-t20 Inv-loop μ-loop
+cast-t20 c = let t = turning (c .before .before .before .before .before) in omega (arith, few (begun (t .before)), more t)
 
 returns : tie.Need-returns Inv-loop μ-loop
 returns c =
-    let step = c .before .before in
-    let turn = step .before .before .before in
-    let l = turn .before in
+    let step = c .before .before .before in
+    let t = turning (step .before .before) in
+    let l = t .before in
     let b = begun l in
-    let some : step .step .result .refusal ≡ 0 → ⊥ = λ e. omega (arith, e, c .if1 .taken) in
-    record {
-      says = stops-here (call b) (bytes b) (l .loop .entries) (l .loop .stack .height) (l .loop .i) (more turn) (l .loop .inv .1) (step .step .result .refusal)
-          (stepped step .refusal) some;
-      proper = some;
-    }
+    let n = c .before .judged .given .0 .0 in
+    let e = c .before .judged .given .1 in
+    let s = stepped step in
+    let some : n ≡ 0 → ⊥ = subst (Stands _ _) e (s .leaves) in
+    record { says = stops-here (call b) (bytes b) (l .loop .entries) (l .loop .stack .height) (l .loop .i) (more t) (l .loop .inv .1) n (sym (ap judgedNumber e) ∙ s .says) some; proper = some }
+
+enum-known-judged-2 : tie.Need-enum-known-judged-2 Inv-loop μ-loop
+enum-known-judged-2 c = search needs
 
 add-i : tie.Need-add-i Inv-loop μ-loop
-add-i c =
-    let l = c .before .before .before .before .before .before .before in
-    omega (arith, few (begun l))
+add-i c = let t = turning (c .before .before .before .before .before) in omega (arith, few (begun (t .before)), more t)
 
 loop-less : tie.Need-loop-less Inv-loop μ-loop
-loop-less c = omega arith
+loop-less c = omega (arith, turning (c .before .before .before .before .before) .loop-test .taken)
 
 loop-again : tie.Need-loop-again Inv-loop μ-loop
 loop-again c =
     let step = c .before .before .before in
-    let turn = step .before .before .before in
-    let l = turn .before in
+    let t = turning (step .before .before) in
+    let l = t .before in
     let b = begun l in
-    let s = stepped step in
-    let passed = c .before .if1 .left in (
+    let e = c .before .judged2 .given .1 in
+    let s = stepped step in (
       l .loop .inv .0,
-      goes-on (call b) (bytes b) (l .loop .entries) (l .loop .stack .height) (l .loop .i) (more turn) (l .loop .inv .1) _ _ (sym (s .refusal) ∙ passed) (s .stack passed)
-          (s .size) (s .height),
+      goes-on (call b) (bytes b) (l .loop .entries) (l .loop .stack .height) (l .loop .i) (more t) (l .loop .inv .1) _ _ (sym (s .says) ∙ ap judgedNumber e) (subst (Stands _ _) e (s .leaves)),
     )
 
-cast-t17 : tie.Need-cast-t17 Inv-loop μ-loop
-cast-t17 c = omega (arith, few (begun (c .before .before .before)))
+cast-t22 : tie.Need-cast-t22 Inv-loop μ-loop
+cast-t22 c = let l = c .before .before .before in omega (arith, few (begun l), l .loop .inv .0)
 
 returns-2 : tie.Need-returns-2 Inv-loop μ-loop
 returns-2 c =
     let l = c .before .before .before in
     let b = begun l in
-    record { says = ends-left (call b) (bytes b) (l .loop .entries) (l .loop .stack .height) (l .loop .i) (omega arith) (l .loop .inv .1) (c .if2 .taken); proper = omega arith }
+    record { says = ap (answer 16) (l .loop .inv .0) ∙ ends-left (call b) (bytes b) (l .loop .entries) (l .loop .stack .height) (l .loop .i) (omega arith) (l .loop .inv .1) (c .if1 .taken); proper = omega arith }
 
-cast-t18 : tie.Need-cast-t18 Inv-loop μ-loop
-cast-t18 c = omega (arith, few (begun (c .before .before .before)))
+cast-t23 : tie.Need-cast-t23 Inv-loop μ-loop
+cast-t23 c = let l = c .before .before .before in omega (arith, few (begun l), l .loop .inv .0)
 
 returns-3 : tie.Need-returns-3 Inv-loop μ-loop
 returns-3 c =
     let l = c .before .before .before in
     let b = begun l in
-    record { says = ends-accepted (call b) (bytes b) (l .loop .entries) (l .loop .stack .height) (l .loop .i) (omega arith) (l .loop .inv .1) (c .if2 .left); proper = tt }
+    record { says = ap (answer 0) (l .loop .inv .0) ∙ ends-accepted (call b) (bytes b) (l .loop .entries) (l .loop .stack .height) (l .loop .i) (omega arith) (l .loop .inv .1) (c .if1 .left); proper = tt }
 
 pub judge-spec : {M : Type 1} → statement M
 judge-spec =
@@ -133,13 +144,17 @@ judge-spec =
     empty-requires
     loop-holds
     record-at-requires
+    symbol-requires
+    row-requires
     step-requires
-    cast-t15
+    enum-known-judged
+    cast-t20
     returns
+    enum-known-judged-2
     add-i
     loop-less
     loop-again
-    cast-t17
+    cast-t22
     returns-2
-    cast-t18
+    cast-t23
     returns-3)

@@ -1,40 +1,34 @@
-use mathlib.Core.Path.{_≡_, refl, sym, _∙_}
 use mathlib.Core.Bool.{false}
-use Prim.Native.Nat.{_≤_}
-use lib.ListN.{length}
-use Rattle.patch.specs.Answers.{refuses}
-use Rattle.patch.proofs.Whole.{limits-refuse, few-records, few-values, masks-refuse, records-refuse, judged-zero, records-accepted}
+use mathlib.Core.Path.{_≡_, refl, sym, _∙_}
+use Rattle.meaning.specs.Patch.{answerOf}
+use Rattle.patch.specs.Answers.{refuses, recordsAnswer}
+use Rattle.patch.proofs.Whole.{Input, called, Limited, limits-refuse, limits-pass, masks-refuse, masks-pass, records-refuse, judged-zero, records-accepted}
 use borrow.Author.Needs.{needs}
 use Rattle.patch.proofs.patch.Statement.{statement}
 use Rattle.patch.proofs.patch.Tie as tie
-use Rattle.patch.proofs.patch.Reads as reads
-use Rattle.patch.proofs.patch.Lts as lts
-use Rattle.patch.proofs.Answer.refuses.Reads as refuses-reads
-use Rattle.patch.proofs.judge.Reads as judge-reads
-use Rattle.patch.proofs.limits.Reads as limits-reads
-use Rattle.patch.proofs.masks.Reads as masks-reads
-use Rattle.patch.proofs.write_all.Reads as write-all-reads
-use Rattle.table.proofs.rows.Reads as rows-reads
 
--- the function's start
+-- the function's start, and what comes in there
 abbrev begun : tie.After-limits → tie.Start
 begun l = l .before .before .before .before
 
--- what did not refuse: the limits, the masks, the records
-limits-pass : (c : tie.Else1) → refuses (c .before .before .limits .result) ≡ false
-limits-pass c = sym (c .before .refuses .ensures) ∙ c .if1 .left
-
-masks-pass : (c : tie.Else2) → refuses (c .before .before .masks .result) ≡ false
-masks-pass c = sym (c .before .refuses2 .ensures) ∙ c .if2 .left
-
-records-pass : (c : tie.Else3) → refuses (c .before .before .judge .result) ≡ false
-records-pass c = sym (c .before .refuses3 .ensures) ∙ c .if3 .left
-
-few : (c : tie.Else1) → length (begun (c .before .before) .args .records .now) ≤ 49152
-few c =
-    let l = c .before .before in
+abbrev came : tie.After-limits → Input
+came l =
     let a = begun l .args in
-    few-records (a .section .now) (a .records .now) (a .values .now) (a .address) (a .gp) (l .limits .result) (l .limits .ensures) (limits-pass c)
+    record { section = a .section .now; records = a .records .now; values = a .values .now; address = a .address; gp = a .gp }
+
+-- what did not refuse: the limits, the masks, the records
+limited : (c : tie.Else1) → Limited (came (c .before .before))
+limited c = let l = c .before .before in limits-pass (came l) (l .limits .result) (l .limits .ensures) (sym (c .before .refuses .ensures) ∙ c .if1 .left)
+
+masked : (c : tie.Else2) →
+    let i = came (c .before .before .before .before .before) in
+    answerOf (called i) (i .records) ≡ recordsAnswer (called i) (i .records)
+masked c =
+    let m = c .before .before in
+    masks-pass (came (m .before .before .before)) (limited (m .before)) (m .masks .result) (m .masks .ensures) (sym (c .before .refuses2 .ensures) ∙ c .if2 .left)
+
+accepted : (c : tie.Else3) → refuses (c .before .before .judge .result) ≡ false
+accepted c = sym (c .before .refuses3 .ensures) ∙ c .if3 .left
 
 limits-requires : tie.Need-limits-requires
 limits-requires c κs = search needs
@@ -43,17 +37,10 @@ refuses-requires : tie.Need-refuses-requires
 refuses-requires c κs = search needs
 
 returns : tie.Need-returns
-returns c =
-    let l = c .before .before in
-    let a = begun l .args in
-    limits-refuse (a .section .now) (a .records .now) (a .values .now) (a .address) (a .gp) (l .limits .result) (l .limits .ensures)
-    (sym (c .before .refuses .ensures) ∙ c .if1 .taken)
+returns c = let l = c .before .before in limits-refuse (came l) (l .limits .result) (l .limits .ensures) (sym (c .before .refuses .ensures) ∙ c .if1 .taken)
 
 masks-requires : tie.Need-masks-requires
-masks-requires c κs =
-    let l = c .before .before in
-    let a = begun l .args in
-    few-values (a .section .now) (a .records .now) (a .values .now) (a .address) (a .gp) (l .limits .result) (l .limits .ensures) (limits-pass c)
+masks-requires c κs = limited c .few-values
 
 refuses-requires-2 : tie.Need-refuses-requires-2
 refuses-requires-2 c κs = search needs
@@ -61,16 +48,13 @@ refuses-requires-2 c κs = search needs
 returns-2 : tie.Need-returns-2
 returns-2 c =
     let m = c .before .before in
-    let l = m .before .before .before in
-    let a = begun l .args in
-    masks-refuse (a .section .now) (a .records .now) (a .values .now) (a .address) (a .gp) (l .limits .result) (l .limits .ensures) (limits-pass (m .before))
-    (m .masks .result) (m .masks .ensures) (sym (c .before .refuses2 .ensures) ∙ c .if2 .taken)
+    masks-refuse (came (m .before .before .before)) (limited (m .before)) (m .masks .result) (m .masks .ensures) (sym (c .before .refuses2 .ensures) ∙ c .if2 .taken)
 
-rows-requires : tie.Need-rows-requires
-rows-requires c κs = search needs
+fixed-rows-requires : tie.Need-fixed-rows-requires
+fixed-rows-requires c κs = search needs
 
 judge-requires : tie.Need-judge-requires
-judge-requires c κs = (c .before .rows .ensures, few (c .before .before .before .before .before))
+judge-requires c κs = (limited (c .before .before .before .before .before) .few-records, c .before .fixed-rows .ensures, refl)
 
 refuses-requires-3 : tie.Need-refuses-requires-3
 refuses-requires-3 c κs = search needs
@@ -78,26 +62,17 @@ refuses-requires-3 c κs = search needs
 returns-3 : tie.Need-returns-3
 returns-3 c =
     let j = c .before .before in
-    let m = j .before .before .before .before .before in
-    let l = m .before .before .before in
-    let a = begun l .args in
-    records-refuse (a .section .now) (a .records .now) (a .values .now) (a .address) (a .gp) (l .limits .result) (l .limits .ensures) (limits-pass (m .before))
-    (m .masks .result) (m .masks .ensures) (masks-pass (j .before .before .before)) (j .judge .result) (j .judge .ensures)
-    (sym (c .before .refuses3 .ensures) ∙ c .if3 .taken)
+    let e = j .before .before .before in
+    records-refuse (came (e .before .before .before .before .before)) (masked e) (j .judge .result) (j .judge .ensures) (sym (c .before .refuses3 .ensures) ∙ c .if3 .taken)
 
 write-all-requires : tie.Need-write-all-requires
 write-all-requires c κs =
     let t = c .before .before in
     let j = t .before .before in
-    let m = j .before .before .before .before .before in
-    let l = m .before .before .before in
-    let a = begun l .args in (
-      j .before .before .rows .ensures,
-      (
-        (refl, few (m .before)),
-        judged-zero (a .section .now) (a .records .now) (a .values .now) (a .address) (a .gp) (l .limits .result) (l .limits .ensures) (limits-pass (m .before))
-            (m .masks .result) (m .masks .ensures) (masks-pass (j .before .before .before)) (j .judge .result) (j .judge .ensures) (records-pass t),
-      ),
+    let e = j .before .before .before in
+    let i = came (e .before .before .before .before .before) in (
+      (limited (e .before .before .before) .few-records, j .before .before .fixed-rows .ensures, refl),
+      (refl, judged-zero i (masked e) (j .judge .result) (j .judge .ensures) (accepted t)),
     )
 
 same-length : tie.Need-same-length
@@ -108,12 +83,8 @@ returns-4 c =
     let written = c .before .before in
     let t = written .before .before .before in
     let j = t .before .before in
-    let m = j .before .before .before .before .before in
-    let l = m .before .before .before in
-    let a = begun l .args in
-    records-accepted (a .section .now) (a .records .now) (a .values .now) (a .address) (a .gp) (l .limits .result) (l .limits .ensures) (limits-pass (m .before))
-    (m .masks .result) (m .masks .ensures) (masks-pass (j .before .before .before)) (j .judge .result) (j .judge .ensures) (records-pass t)
-    _ (written .write-all .ensures)
+    let e = j .before .before .before in
+    records-accepted (came (e .before .before .before .before .before)) (masked e) (j .judge .result) (j .judge .ensures) (accepted t) _ (written .write-all .ensures)
 
 pub patch-spec : {M : Type 1} → statement M
 patch-spec =
@@ -125,7 +96,7 @@ patch-spec =
     masks-requires
     refuses-requires-2
     returns-2
-    rows-requires
+    fixed-rows-requires
     judge-requires
     refuses-requires-3
     returns-3

@@ -3,124 +3,122 @@ use Prim.Native.Nat.{ℕ, _-_, _/_, _≤_, _<_}
 use native.Mathlib.Omega.{arith}
 use mathlib.Core.List.{List}
 use mathlib.Core.Path.{_≡_, refl, sym, _∙_, subst, subst⁻¹}
-use lib.IntN.{ℤ}
 use lib.ListN.{length}
-use Rattle.meaning.specs.Table.{semantics}
-use Rattle.meaning.specs.Call.{Setting, Record, recordOf}
-use Rattle.meaning.specs.Patch.{effect}
-use Rattle.lemmas.specs.Pieces.{piece}
+use Rattle.meaning.specs.Call.{Call, Record, card64, does}
+use Rattle.lemmas.specs.Passed.{refusalOf}
 use Rattle.stack.specs.Tops.{tops}
-use Rattle.steps.specs.Refusal.{refusalOf}
-use Rattle.steps.specs.Step.{given}
-use Rattle.writers.specs.Written.{Leaves}
-use Rattle.patch.proofs.Laws.{Going, Leaving, going-start, leaving-start, passes-here, goes-on, leaves-on, ends-leaving}
+use Rattle.records.specs.Given.{asSetting, given}
+use Rattle.writers.specs.Written.{Writes}
+use Rattle.patch.proofs.Laws.{Turn, turn, record-whole, recordAt, doing, Going, Leaving, going-start, leaving-start, passes-here, goes-on, leaves-on, ends-leaving}
 use Rattle.patch.proofs.write_all.Statement.{statement}
 use Rattle.patch.proofs.write_all.Tie as tie
-use Rattle.patch.proofs.write_all.Reads as reads
-use Rattle.patch.proofs.write_all.Lts as lts
-use Rattle.stack.proofs.Stack.empty.Reads as empty-reads
-use Rattle.patch.proofs.record_at.Reads as record-at-reads
-use Rattle.writers.proofs.write.Reads as write-reads
 
 abbrev Inv-loop : tie.InvT-loop
-Inv-loop rows section₀ records values setting count entries₀ stack₀ written₀ section entries stack written =
-    let c = given (setting .size) values (setting .address) (setting .gp) in
-    (count ≡ length records / 24) × (length section ≡ length section₀) × Going c records entries (stack .height) written × Leaving c records section₀ section entries (stack .height) written
+Inv-loop section₀ records values fixed setting count entries₀ stack₀ written₀ section entries stack written =
+    (count ≡ length records / card64 .recordBytes) × (length section ≡ length section₀) × Going (given setting values) records entries (stack .height) written
+    × Leaving (given setting values) records section₀ section entries (stack .height) written
 
 abbrev μ-loop : tie.MeasureT-loop
-μ-loop rows section₀ records values setting count entries₀ stack₀ written₀ section entries stack written = count - written
+μ-loop section₀ records values fixed setting count entries₀ stack₀ written₀ section entries stack written = count - written
 
--- at the loop's head: the function's start, what a call gives to its records, the record bytes, and the stack
+-- at the loop's head: the function's start, the call, and the record bytes
 abbrev begun : tie.At-loop Inv-loop μ-loop → tie.Start Inv-loop μ-loop
 begun l = l .before .before .before .before .before
 
-abbrev call : tie.Start Inv-loop μ-loop → Setting
-call b = given (b .args .setting .size) (b .args .values .now) (b .args .setting .address) (b .args .setting .gp)
+abbrev call : tie.Start Inv-loop μ-loop → Call
+call b = given (b .args .setting) (b .args .values .now)
 
 abbrev bytes : tie.Start Inv-loop μ-loop → List ℕ
 bytes b = b .args .records .now
 
-abbrev st : tie.At-loop Inv-loop μ-loop → List ℤ
-st l = tops (l .loop .entries) (l .loop .stack .height)
+few : (b : tie.Start Inv-loop μ-loop) → length (bytes b) ≤ card64 .recordsLimit
+few b = b .pre .0 .0
 
-few : (b : tie.Start Inv-loop μ-loop) → length (bytes b) ≤ 49152
-few b = b .pre .1 .0 .1
+-- in a turn: the record and its row, that no check refuses it, and what is written
+more : (c : tie.In-loop Inv-loop μ-loop) → c .before .loop .written < length (bytes (begun (c .before))) / card64 .recordBytes
+more c = subst (λ (n : ℕ). c .before .loop .written < n) (c .before .loop .inv .0) (c .loop-test .taken)
 
--- in a turn: its record is the list's, no check refuses it, and what is written is its effect
-more : (c : tie.In-loop Inv-loop μ-loop) → c .before .loop .written < length (bytes (begun (c .before))) / 24
-more c = c .loop-test .taken
+abbrev turning : tie.After-row Inv-loop μ-loop → tie.In-loop Inv-loop μ-loop
+turning r = r .before .before .before .before
 
-passes : (c : tie.In-loop Inv-loop μ-loop) →
-    let l = c .before in
-    let r = recordOf (piece 24 (bytes (begun l)) (l .loop .written)) in
-    refusalOf (call (begun l)) r (semantics (r .type)) (st l) ≡ 0
-passes c =
-    let l = c .before in
+looked : (r : tie.After-row Inv-loop μ-loop) →
+    let l = turning r .before in
     let b = begun l in
-    passes-here (call b) (bytes b) (l .loop .entries) (l .loop .stack .height) (l .loop .written) (more c) (l .loop .inv .2) (b .pre .1 .1)
+    Turn (b .args .setting) (bytes b) (b .args .values .now) (r .before .before .before .record-at .result .now) (r .row .result .now) (l .loop .written)
+looked r =
+    let l = turning r .before in
+    let b = begun l in
+    turn (b .args .setting) (bytes b) (b .args .values .now) (r .before .before .before .record-at .result .now) (r .row .result .now) (l .loop .written) (r .before .symbol .result)
+    (b .pre .0 .2) (more (turning r)) (r .before .before .before .record-at .ensures) (r .before .symbol .ensures) (r .row .ensures)
+
+passes : (t : tie.In-loop Inv-loop μ-loop) →
+    let l = t .before in
+    let b = begun l in
+    refusalOf (asSetting (b .args .setting)) (recordAt (call b) (bytes b) (l .loop .written)) (doing (call b) (bytes b) (l .loop .written)) (tops (l .loop .entries) (l .loop .stack .height)) ≡ 0
+passes t =
+    let l = t .before in
+    let b = begun l in
+    passes-here (call b) (bytes b) (l .loop .entries) (l .loop .stack .height) (l .loop .written) (more t) (l .loop .inv .2) (b .pre .1 .1)
 
 wrote : (c : tie.After-write Inv-loop μ-loop) →
-    let l = c .before .before .before .before .before in
-    let r = recordOf (piece 24 (bytes (begun l)) (l .loop .written)) in
-    Leaves (call (begun l)) r (semantics (r .type)) (st l) (c .write .last .1 .1 .1 .1 .1 .0) (c .write .result .height)
-    × (c .write .last .1 .0 ≡ effect (call (begun l)) r (semantics (r .type)) (st l) (l .loop .section))
+    let l = turning (c .before .before .before) .before in
+    let b = begun l in
+    Writes (asSetting (b .args .setting)) (recordAt (call b) (bytes b) (l .loop .written)) (doing (call b) (bytes b) (l .loop .written)) (l .loop .entries) (l .loop .stack .height) (l .loop .section)
+    (c .write .last .1 .1 .1 .1 .0) (c .write .result .height) (c .write .last .0)
 wrote c =
-    let l = c .before .before .before .before .before in
-    subst (λ (x : Record). Leaves (call (begun l)) x (semantics (x .type)) (st l) (c .write .last .1 .1 .1 .1 .1 .0) (c .write .result .height)
-    × (c .write .last .1 .0 ≡ effect (call (begun l)) x (semantics (x .type)) (st l) (l .loop .section))) (c .before .before .before .record-at .ensures) (c .write .ensures)
+    let l = turning (c .before .before .before) .before in
+    let b = begun l in
+    subst (λ (x : Record). Writes (asSetting (b .args .setting)) x (does (asSetting (b .args .setting)) x) (l .loop .entries) (l .loop .stack .height) (l .loop .section)
+    (c .write .last .1 .1 .1 .1 .0) (c .write .result .height) (c .write .last .0)) (looked (c .before .before .before) .is) (c .write .ensures)
 
 empty-requires : tie.Need-empty-requires Inv-loop μ-loop
 empty-requires c κs = search needs
 
 loop-holds : tie.Need-loop-holds Inv-loop μ-loop
 loop-holds c =
-    let b = c .before .before .before .before in (
-      refl,
-      refl,
-      subst⁻¹ (λ (h : ℕ). Going (call b) (bytes b) _ h 0) (c .empty .ensures) (going-start (call b) (bytes b) _ refl),
-      subst⁻¹ (λ (h : ℕ). Leaving (call b) (bytes b) (b .args .section .now) (b .args .section .now) _ h 0) (c .empty .ensures)
-          (leaving-start (call b) (bytes b) _ (b .args .section .now)),
-    )
+    let b = c .before .before .before .before in
+    (refl, refl, going-start (call b) (bytes b) _ _ refl (c .empty .ensures), leaving-start (call b) (bytes b) _ _ (b .args .section .now) (c .empty .ensures))
 
 record-at-requires : tie.Need-record-at-requires Inv-loop μ-loop
 record-at-requires c κs = (more c, few (begun (c .before)))
 
+symbol-requires : tie.Need-symbol-requires Inv-loop μ-loop
+symbol-requires c κs = let r = c .before in record-whole _ _ _ (more (r .before)) (r .record-at .ensures)
+
+row-requires : tie.Need-row-requires Inv-loop μ-loop
+row-requires c κs = begun (c .before .before .before .before) .pre .0 .1
+
 write-requires : tie.Need-write-requires Inv-loop μ-loop
 write-requires c κs =
-    let read = c .before .before in
-    let turn = read .before in
-    let l = turn .before in
-    let b = begun l in (
-      b .pre .0,
-      (
-        b .pre .1 .0 .0 ∙ sym (l .loop .inv .1),
-        record {
-          passes = subst⁻¹ (λ (x : Record). refusalOf (call b) x (semantics (x .type)) (st l) ≡ 0) (read .record-at .ensures) (passes turn);
-          low = l .loop .inv .2 .low;
-          long = l .loop .inv .2 .long;
-        },
-      ),
-    )
+    let r = c .before .before in
+    let t = turning r in
+    let l = t .before in
+    let b = begun l in
+    let held = looked r in
+    record {
+      whole = record { whole = held .ready .whole; whole-row = held .ready .whole-row };
+      size = b .pre .1 .0 ∙ sym (l .loop .inv .1);
+      passes = subst⁻¹ (λ (x : Record). refusalOf (asSetting (b .args .setting)) x (does (asSetting (b .args .setting)) x) (tops (l .loop .entries) (l .loop .stack .height)) ≡ 0) (held .is) (passes t);
+      fit = l .loop .inv .2 .fit;
+    }
 
 add-written : tie.Need-add-written Inv-loop μ-loop
-add-written c =
-    let l = c .before .before .before .before .before .before .before in
-    omega (arith, few (begun l))
+add-written c = let t = turning (c .before .before .before .before .before) in omega (arith, few (begun (t .before)), more t)
 
 loop-less : tie.Need-loop-less Inv-loop μ-loop
-loop-less c = omega arith
+loop-less c = omega (arith, turning (c .before .before .before .before .before) .loop-test .taken)
 
 loop-again : tie.Need-loop-again Inv-loop μ-loop
 loop-again c =
     let write = c .before .before in
-    let turn = write .before .before .before .before in
-    let l = turn .before in
+    let t = turning (write .before .before .before) in
+    let l = t .before in
     let b = begun l in
     let w = wrote write in (
       l .loop .inv .0,
-      write .write .kept .1 .0 ∙ l .loop .inv .1,
-      goes-on (call b) (bytes b) (l .loop .entries) (l .loop .stack .height) (l .loop .written) (more turn) (l .loop .inv .2) _ _ (passes turn) (w .0 .is) (w .0 .long) (w .0 .low),
-      leaves-on (call b) (bytes b) (l .loop .entries) (l .loop .stack .height) (l .loop .written) (more turn) (b .args .section .now) (l .loop .section) _ _ _ (l .loop .inv .3) (w .0 .is) (w .1),
+      write .write .kept .0 ∙ l .loop .inv .1,
+      goes-on (call b) (bytes b) (l .loop .entries) (l .loop .stack .height) (l .loop .written) (more t) (l .loop .inv .2) _ _ (passes t) (w .stack),
+      leaves-on (call b) (bytes b) (l .loop .entries) (l .loop .stack .height) (l .loop .written) (more t) (b .args .section .now) (l .loop .section) _ _ _ (l .loop .inv .3) (w .stack) (w .bytes),
     )
 
 same-length : tie.Need-same-length Inv-loop μ-loop
@@ -141,6 +139,8 @@ write-all-spec =
     empty-requires
     loop-holds
     record-at-requires
+    symbol-requires
+    row-requires
     write-requires
     add-written
     loop-less

@@ -4,11 +4,6 @@ use native.Mathlib.Omega.{arith}
 use Rattle.patcher.proofs.Laws.{used, refused-output, patched-output, whole-input}
 use Rattle.patcher.proofs.answer.Statement.{statement}
 use Rattle.patcher.proofs.answer.Tie as tie
-use Rattle.patcher.proofs.answer.Reads as reads
-use Rattle.patcher.proofs.answer.Lts as lts
-use Rattle.frames.proofs.read.Reads as read-reads
-use Rattle.output.proofs.write.Reads as write-reads
-use Rattle.patcher.proofs.patch_and_write.Reads as patch-and-write-reads
 
 read-requires : tie.Need-read-requires
 read-requires c κs = search needs

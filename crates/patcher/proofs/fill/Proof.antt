@@ -4,10 +4,6 @@ use mathlib.Core.Path.{_≡_}
 use lib.ListN.{length}
 use Rattle.patcher.proofs.fill.Statement.{statement}
 use Rattle.patcher.proofs.fill.Tie as tie
-use Rattle.patcher.proofs.fill.Reads as reads
-use Rattle.patcher.proofs.fill.Lts as lts
-use Rattle.io.proofs.count.Reads as count-reads
-use Rattle.libc.proofs.read.Reads as read-reads
 
 abbrev Inv-loop : tie.InvT-loop
 Inv-loop buffer₀ n₀ buffer n = (n ≤ length buffer) × (length buffer ≡ length buffer₀)

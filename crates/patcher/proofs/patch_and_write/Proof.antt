@@ -4,12 +4,6 @@ use Rattle.meaning.specs.Checks.{Answer}
 use Rattle.patcher.proofs.Laws.{wrote}
 use Rattle.patcher.proofs.patch_and_write.Statement.{statement}
 use Rattle.patcher.proofs.patch_and_write.Tie as tie
-use Rattle.patcher.proofs.patch_and_write.Reads as reads
-use Rattle.patcher.proofs.patch_and_write.Lts as lts
-use Rattle.output.proofs.write.Reads as write-reads
-use Rattle.patch.proofs.patch.Reads as patch-reads
-use Rattle.patcher.proofs.number_of.Reads as number-of-reads
-use Rattle.patcher.proofs.place_of.Reads as place-of-reads
 
 patch-requires : tie.Need-patch-requires
 patch-requires c κs = search needs

@@ -3,11 +3,6 @@ use native.Mathlib.Omega.{arith}
 use Rattle.patcher.proofs.Laws.{read-within, output-within, first-bytes}
 use Rattle.patcher.proofs.run.Statement.{statement}
 use Rattle.patcher.proofs.run.Tie as tie
-use Rattle.patcher.proofs.run.Reads as reads
-use Rattle.patcher.proofs.run.Lts as lts
-use Rattle.io.proofs.write_all.Reads as write-all-reads
-use Rattle.patcher.proofs.answer.Reads as answer-reads
-use Rattle.patcher.proofs.fill.Reads as fill-reads
 
 fill-requires : tie.Need-fill-requires
 fill-requires c κs = search needs

@@ -3,9 +3,6 @@ use Rattle.patch.specs.Answers as P
 use borrow.Author.Needs.{needs}
 use Rattle.rofteluvi.proofs.rofteluvi_patch.Statement.{statement}
 use Rattle.rofteluvi.proofs.rofteluvi_patch.Tie as tie
-use Rattle.rofteluvi.proofs.rofteluvi_patch.Reads as reads
-use Rattle.rofteluvi.proofs.rofteluvi_patch.Lts as lts
-use Rattle.patch.proofs.patch.Reads as patch-reads
 
 patch-requires : tie.Need-patch-requires
 patch-requires c κs = search needs

@@ -11,9 +11,6 @@ use Rattle.back.specs.Immediates as B
 use borrow.Author.Needs.{needs}
 use Rattle.rofteluvi.proofs.rofteluvi_read_back.Statement.{statement}
 use Rattle.rofteluvi.proofs.rofteluvi_read_back.Tie as tie
-use Rattle.rofteluvi.proofs.rofteluvi_read_back.Reads as reads
-use Rattle.rofteluvi.proofs.rofteluvi_read_back.Lts as lts
-use Rattle.back.proofs.read_back.Reads as read-back-reads
 
 read-back-requires : tie.Need-read-back-requires
 read-back-requires c κs = search needs

@@ -1,4 +1,5 @@
--- `stack::put` meets its contract. Assumes nothing.
+use mathlib.Core.Path.{sym, ap, _∙_}
+use Rattle.stack.specs.Tops.{entriesAt}
 use Rattle.stack.specs.Laws.{no-room, room}
 use Rattle.stack.proofs.Numbers.{same}
 use borrow.Author.Needs.{needs}
@@ -15,24 +16,15 @@ enum-told : tie.Need-enum-told
 enum-told c = search needs
 
 returns : tie.Need-returns
-returns c =
-    let start = c .before .before .before .before in
-    let push = c .before .before .push in
-    let s = start .args .entries .now in
-    let h = start .args .stack .height in
-    let z = start .args .z in
-    let e = same z (start .fits .z .sfits) in
-    no-room s h z (start .pre .1) (rw e at (push .ensures .0)) (rw e at (push .ensures .1)) (start .pre .0) (c .enum-told .given .1)
+returns c = no-room (c .before .before .before .before .args .stack .height) (sym (c .before .before .push .ensures .0) ∙ c .enum-told .given .1)
 
 returns-2 : tie.Need-returns-2
 returns-2 c =
-    let start = c .before .before .before .before .before in
+    let b = c .before .before .before .before .before in
     let push = c .before .before .before .push in
-    let s = start .args .entries .now in
-    let h = start .args .stack .height in
-    let z = start .args .z in
-    let e = same z (start .fits .z .sfits) in
-    room s h z (start .pre .1) (rw e at (push .ensures .0)) (rw e at (push .ensures .1)) (c .before .above .given .1)
+    let s = b .args .entries .now in
+    let h = b .args .stack .height in
+    room s h (b .args .z) (b .pre) (sym (push .ensures .0) ∙ c .before .above .given .1) (push .ensures .1 ∙ ap (entriesAt s h) (same (b .args .z) (b .fits .z .sfits)))
 
 pub put-spec : {M : Type 1} → statement M
 put-spec = tie.close (tie.spec push-requires enum-known-above enum-told returns returns-2)

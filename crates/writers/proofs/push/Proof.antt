@@ -1,33 +1,24 @@
+-- `writers::push` meets its contract: the value read as signed is on top. Assumes nothing.
 use mathlib.Core.Path.{ap, _∙_}
-use Rattle.meaning.specs.Numbers.{signed}
-use Rattle.steps.proofs.Small.{passed}
-use Rattle.writers.proofs.Laws.{put-holds}
+use mathlib.Core.List.{_∷_}
 use borrow.Author.Needs.{needs}
+use lib.IntN.{ℤ}
+use Rattle.meaning.specs.Numbers.{signed}
+use Rattle.stack.specs.Laws.{holding}
+use Rattle.stack.specs.Tops.{tops}
+use Rattle.writers.proofs.Laws.{passed}
 use Rattle.writers.proofs.push.Statement.{statement}
 use Rattle.writers.proofs.push.Tie as tie
-use Rattle.writers.proofs.push.Reads as reads
-use Rattle.writers.proofs.push.Lts as lts
-use Rattle.numbers.proofs.signed.Reads as signed-reads
-use Rattle.stack.proofs.put.Reads as put-reads
-use Rattle.steps.proofs.evaluate.Reads as evaluate-reads
-
-evaluate-requires : tie.Need-evaluate-requires
-evaluate-requires c κs = search needs
-
-signed-requires : tie.Need-signed-requires
-signed-requires c κs = search needs
-
-put-requires : tie.Need-put-requires
-put-requires c κs = search needs
 
 returns : tie.Need-returns
 returns c =
-    let put = c .before in
-    let sign = put .before in
+    let sign = c .before in
     let value = sign .before .before in
-    let b = value .before .before in
-    put-holds (b .args .entries .now) _ (b .args .stack .height) _ _ _ _ (b .pre .1 .1 .0) (put .put .ensures)
-    (passed (sign .signed .result) _ (sign .signed .ok) (sign .signed .ensures) ∙ ap (signed 64) (value .evaluate .ensures))
+    let a = value .before .before .before in
+    holding (ap (λ (z : ℤ). z ∷ tops (a .args .entries .now) (a .args .stack .height))
+    (passed (sign .signed .ok) (sign .signed .ensures ∙ ap (signed 64) (value .formula .ensures)))) (c .replace .ensures)
 
 pub push-spec : {M : Type 1} → statement M
-push-spec = tie.close (tie.spec evaluate-requires signed-requires put-requires returns)
+push-spec =
+    tie.close
+    (tie.spec (λ c κs. search needs) (λ c κs. search needs) (λ c κs. search needs) returns)

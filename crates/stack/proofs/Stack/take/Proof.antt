@@ -1,13 +1,11 @@
 -- `stack::Stack::take` meets its contract. Assumes nothing.
-use Rattle.stack.specs.Laws.{tops-none}
-use Rattle.stack.proofs.Numbers.{same}
-use Rattle.stack.proofs.Steps.{took}
+use Rattle.stack.proofs.Numbers.{same, took}
 use borrow.Author.Needs.{needs}
 use Rattle.stack.proofs.Stack.take.Statement.{statement}
 use Rattle.stack.proofs.Stack.take.Tie as tie
 
 returns : tie.Need-returns
-returns c = rw (c .if1 .taken, tops-none)
+returns c = search needs
 
 sub-top : tie.Need-sub-top
 sub-top c = search needs
