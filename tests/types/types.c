@@ -42,8 +42,9 @@ static void bare(uint32_t type) {
     plain(UINT64_MAX, type);
 }
 
+/* A push may name any offset. */
 static void push(uint64_t x) {
-    draft_record(&d, 0, 23, 0, x);
+    draft_record(&d, UINT64_MAX, 23, 0, x);
 }
 
 /* The entry on top, duplicated: its high half to the second word at the place, its low half to the first. */

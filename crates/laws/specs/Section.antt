@@ -6,14 +6,13 @@ use mathlib.Core.Logic.{_⊎_}
 use mathlib.Core.Path.{_≡_, refl, sym, ap, _∙_, subst, subst⁻¹}
 use borrow.Author.Tests.{eq-eqb, ne-eqb, eqb-true}
 use lib.Dec.{eqb}
-use lib.ListN.{length, getD, length-map}
-use Rattle.meaning.specs.Numbers.{pieces}
+use lib.ListN.{length, getD}
 use Rattle.meaning.specs.Table.{Semantics}
-use Rattle.meaning.specs.Call.{Setting, Call, Record, does, recordOf, recordsOf}
+use Rattle.meaning.specs.Call.{Setting, Call, Record, does, recordsOf}
 use Rattle.meaning.specs.Stack.{Stack, after}
 use Rattle.meaning.specs.Checks.{answer, writes, outside, ofRecord, ofRecords, checks}
 use Rattle.meaning.specs.Patch.{call, answerOf, effect, patched, sectionOf}
-use Rattle.lemmas.specs.Pieces.{length-cut}
+use Rattle.lemmas.specs.Pieces.{length-records}
 use Rattle.lemmas.specs.Passed.{passed, PassedCall, passed-call}
 use Rattle.laws.specs.First.{Every, Passes, every-left, every-right, zero-passes, first-passed, checks-numbered}
 use Rattle.laws.specs.Replaced.{Bytes}
@@ -26,11 +25,6 @@ pub refused-leaves : (c : Call) (records s : List ℕ) → (answerOf c records .
 refused-leaves c records s h = rw (ne-eqb (answerOf c records .number) 0 h)
 
 -- ---- accepted
-
-pub length-records : (c : Call) (records : List ℕ) → length (recordsOf c records) ≡ length records / c .setting .card .recordBytes
-length-records c records =
-    let size : ℕ = c .setting .card .recordBytes in
-    length-map (pieces size records) (recordOf (c .setting .card) (c .values)) ∙ length-cut size (length records / size) records
 
 passes-all : (c : Call) (records : List ℕ) → answerOf c records .number ≡ 0 → Every Passes (checks c records)
 passes-all c records e = zero-passes (checks c records) _ (checks-numbered c records) e

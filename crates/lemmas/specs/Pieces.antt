@@ -1,12 +1,13 @@
 -- Pieces of a buffer by their place: how a loop that counts comes to the list of pieces that the meaning has.
-use Prim.Native.Nat.{ℕ, zero, suc, _+_, _-_, _*_, _<_, _≤_}
+use Prim.Native.Nat.{ℕ, zero, suc, _+_, _-_, _*_, _/_, _<_, _≤_}
 use native.Mathlib.Nat.{add-comm, mul-zero, mul-suc, sub-zero, sub-self, le-of-suc-le-suc, not-suc-le-zero}
 use native.Mathlib.Omega.{arith}
 use mathlib.Core.List.{List, [], _∷_}
 use mathlib.Core.Path.{_≡_, refl, sym, ap, _∙_}
-use lib.ListN.{length, take, drop, getD, length-drop}
+use lib.ListN.{length, take, drop, getD, length-drop, length-map}
 use lib.Seq.{drop-drop, length-take-le}
-use Rattle.meaning.specs.Numbers.{cut}
+use Rattle.meaning.specs.Numbers.{cut, pieces}
+use Rattle.meaning.specs.Call.{Call, recordOf, recordsOf}
 
 -- the piece at a place
 abbrev pub piece : ℕ → List ℕ → ℕ → List ℕ
@@ -44,6 +45,11 @@ pub length-cut : (size n : ℕ) (s : List ℕ) → length (cut size n s) ≡ n
 unfolding cut
 length-cut size zero s = refl
 length-cut size (suc n) s = ap suc (length-cut size n (drop size s))
+
+pub length-records : (c : Call) (records : List ℕ) → length (recordsOf c records) ≡ length records / c .setting .card .recordBytes
+length-records c records =
+    let size : ℕ = c .setting .card .recordBytes in
+    length-map (pieces size records) (recordOf (c .setting .card) (c .values)) ∙ length-cut size (length records / size) records
 
 -- a piece of the list is whole
 pub length-piece : (size : ℕ) (s : List ℕ) (k : ℕ) → size * suc k ≤ length s → length (piece size s k) ≡ size

@@ -10,13 +10,13 @@ use Rattle.meaning.specs.Patch.{call, answerOf, sectionOf}
 unfoldable pub rela : ℕ → ℕ → ℕ → ℕ → List ℕ
 rela offset type symbol addend = bytesOf 8 offset ++ bytesOf 8 (type + symbol * 2 ^ 32) ++ bytesOf 8 addend
 
--- type 23 of symbol 0 pushes the addend
-unfoldable pub push : ℕ → List ℕ
-push addend = rela 0 23 0 addend
-
--- an addend below 0
+-- a number below 0
 unfoldable pub minus : ℕ → ℕ
 minus n = 2 ^ 64 - n
+
+-- type 23 of symbol 0 pushes the addend. A push may name any offset; here none of the section's.
+unfoldable pub push : ℕ → List ℕ
+push addend = rela (minus 1) 23 0 addend
 
 pub record Case : Type 0 where
   pub section : List ℕ

@@ -8,8 +8,7 @@ use mathlib.Core.Path.{_≡_, refl, sym, ap, _∙_, subst, subst⁻¹}
 use borrow.Author.Tests.{eq-eqb, ne-eqb}
 use lib.Dec.{eqb}
 use lib.IntN.{ℤ}
-use lib.ListN.{length, length-map}
-use Rattle.meaning.specs.Numbers.{cut}
+use lib.ListN.{length}
 use Rattle.meaning.specs.Table.{Semantics}
 use Rattle.meaning.specs.Call.{Call, Setting, Record, card64, rowBytes, rowsOf, rowOf, symbolIn, does, recordWith, recordOf, recordsOf}
 use Rattle.meaning.specs.Stack.{depth, after}
@@ -17,7 +16,7 @@ use Rattle.meaning.specs.Checks.{Answer, answer, first, ofRecord, ofRecords}
 use Rattle.meaning.specs.Patch.{effect, patched}
 use Rattle.lemmas.specs.First.{first-append}
 use Rattle.lemmas.specs.Passed.{refusalOf}
-use Rattle.lemmas.specs.Pieces.{piece, piecesFrom, from-start, from-next, from-end, length-cut, length-piece}
+use Rattle.lemmas.specs.Pieces.{piece, piecesFrom, from-start, from-next, from-end, length-records, length-piece}
 use Rattle.stack.specs.Tops.{tops, Fit, Holds}
 use Rattle.stack.specs.Laws.{tops-none, length-tops}
 use Rattle.values.proofs.Laws.{row-whole, row-none}
@@ -146,9 +145,6 @@ module _ (c : Call) (records : List ℕ) where
 
   -- ---- after the last record
 
-  length-records : length (recordsOf c records) ≡ number
-  length-records = length-map (cut size number records) (recordOf (c .setting .card) (c .values)) ∙ length-cut size number records
-
   module _ (entries : List ℤ) (h i : ℕ) (last : i ≡ number) where
     none-left : restOf i ≡ []
     none-left = subst⁻¹ (λ (j : ℕ). restOf j ≡ []) last (ap (map (recordOf (c .setting .card) (c .values))) (from-end size records number))
@@ -167,7 +163,7 @@ module _ (c : Call) (records : List ℕ) where
       unfolding ofRecords first
       ends-accepted z =
           let k : eqb (length (tops entries h)) 0 ≡ true = eq-eqb (length (tops entries h)) 0 (length-tops entries h ∙ z) in
-          ap (answer 0) (sym length-records) ∙ (rw k at at-end)
+          ap (answer 0) (sym (length-records c records)) ∙ (rw k at at-end)
 
     pub ends-leaving : (s₀ s : List ℕ) → Leaving s₀ s entries h i → s ≡ patched (c .setting) [] s₀ (recordsOf c records)
     unfolding patched

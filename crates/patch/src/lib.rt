@@ -3,6 +3,7 @@ use records::Setting;
 use sizes::*;
 use stack::Judged;
 use stack::Stack;
+use values::FIXED;
 use values::Masks;
 ghost use mathlib.Core.Path.{_≡_};
 ghost use mathlib.Core.List.{[]};
@@ -79,7 +80,7 @@ fn record_at(records: &[u8], i: usize) -> &[u8]
 
 // The whole list, each record with its symbol's row and the stack that the earlier ones left: the first refusal, or 16 where entries are
 // left.
-fn judge<'a>(records: &[u8], values: &'a [u8], fixed: &'a [u8; 112], setting: Setting) -> Answer
+fn judge<'a>(records: &[u8], values: &'a [u8], fixed: &'a [u8; FIXED], setting: Setting) -> Answer
     requires { ⌜ (length (now records) ≤ card64 .recordsLimit) × (now fixed ≡ fixedRows) × (setting .rows ≡ length (now values) / rowBytes) ⌝ }
     ensures { λ r. ⌜ Answers r (recordsAnswer (given setting (now (values .entry))) (now (records .entry))) ⌝ }
 {
@@ -112,7 +113,7 @@ fn write_all<'a>(
     section: &mut [u8],
     records: &[u8],
     values: &'a [u8],
-    fixed: &'a [u8; 112],
+    fixed: &'a [u8; FIXED],
     setting: Setting,
 )
     requires { ⌜ (length (now records) ≤ card64 .recordsLimit) × (now fixed ≡ fixedRows) × (setting .rows ≡ length (now values) / rowBytes) ⌝ }

@@ -14,11 +14,14 @@ pub enum Masks {
     Above(u32),
 }
 
+// The bytes of two rows.
+pub const FIXED: usize = 2 * ROW;
+
 // Two rows that stand in no table: symbol 0's, which has S present and 0, and one of nothing for a symbol past the rows.
-pub fn fixed_rows() -> [u8; 112]
+pub fn fixed_rows() -> [u8; FIXED]
     ensures { λ r. ⌜ r ≡ fixedRows ⌝ }
 {
-    let mut rows = [0u8; 112];
+    let mut rows = [0u8; FIXED];
     rows[0] = 1;
     rows
 }
@@ -34,7 +37,7 @@ pub fn row<'a>(values: &'a [u8], fixed: &'a [u8], symbol: u64) -> &'a [u8]
     let before = symbol - 1;
     let rows = (values.len() / ROW) as u64;
     if rows <= before {
-        return &fixed[ROW..112];
+        return &fixed[ROW..FIXED];
     }
     let at = ROW * (before as usize);
     let end = at + ROW;
