@@ -21,7 +21,7 @@ typedef rofteluvi_answer patch_function(uint8_t *, size_t, const uint8_t *, size
 __attribute__((noinline)) static rofteluvi_answer nothing(uint8_t *section, size_t section_len, const uint8_t *records,
                                                           size_t records_len, const uint8_t *values, size_t values_len,
                                                           uint64_t address, uint64_t gp) {
-    rofteluvi_answer a = {0, 0};
+    rofteluvi_answer a = {0, 0, 0};
     (void)section, (void)section_len, (void)records, (void)records_len, (void)values, (void)values_len, (void)address, (void)gp;
     __asm__ volatile("");
     return a;

@@ -21,11 +21,11 @@ enum {
        line after them are enough to judge it. No more is read. */
     INPUT_BYTES_MAX = 549923 + 132,
     /* The answer's line, then a full section in lines of 64 bytes, each with its kind and its line feed. */
-    OUTPUT_BYTES_MAX = 11 + ROFTELUVI_SECTION_BYTES_MAX / FRAME_BYTES_MAX * (2 + 2 * FRAME_BYTES_MAX + 1)
+    OUTPUT_BYTES_MAX = 27 + ROFTELUVI_SECTION_BYTES_MAX / FRAME_BYTES_MAX * (2 + 2 * FRAME_BYTES_MAX + 1)
 };
 
 static rofteluvi_answer answer(uint32_t number, uint32_t place) {
-    rofteluvi_answer a = {number, place};
+    rofteluvi_answer a = {number, place, 0};
     return a;
 }
 
@@ -160,10 +160,10 @@ static bool write_answer(rofteluvi_answer a) {
     static char output[OUTPUT_BYTES_MAX + 1]; /* and the zero that ends what sprintf writes */
     char *end = output;
     if (a.number == ROFTELUVI_ACCEPTED) {
-        end += sprintf(end, "00%08" PRIx32 "\n", a.place);
+        end += sprintf(end, "00%08" PRIx32 "%016" PRIx64 "\n", a.place, a.offset);
         end = put_section(end);
     } else {
-        end += sprintf(end, "ff%02" PRIx32 "%08" PRIx32 "\n", a.number, a.place);
+        end += sprintf(end, "ff%02" PRIx32 "%08" PRIx32 "%016" PRIx64 "\n", a.number, a.place, a.offset);
     }
     size_t length = (size_t)(end - output);
     return fwrite(output, 1, length, stdout) == length && fflush(stdout) == 0;

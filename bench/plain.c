@@ -17,9 +17,14 @@ static inline void store64(uint8_t *p, uint64_t x) { memcpy(p, &x, 8); }
 static inline void store32(uint8_t *p, uint32_t x) { memcpy(p, &x, 4); }
 static inline void store16(uint8_t *p, uint16_t x) { memcpy(p, &x, 2); }
 
-static inline rofteluvi_answer answer(uint32_t number, size_t place) {
-    rofteluvi_answer a = {number, (uint32_t)place};
+static inline rofteluvi_answer refusal(uint32_t number, size_t place, uint64_t offset) {
+    rofteluvi_answer a = {number, (uint32_t)place, offset};
     return a;
+}
+
+/* An answer that is about no record. */
+static inline rofteluvi_answer answer(uint32_t number, size_t place) {
+    return refusal(number, place, 0);
 }
 
 /* ---- Judging ---- */
@@ -38,14 +43,24 @@ static inline uint32_t find(const uint8_t *values, size_t rows, uint32_t symbol,
     return 0;
 }
 
-/* 0, or 14: whether x fits into n signed bits. */
-static inline uint32_t fits(int64_t x, unsigned n) {
-    return (uint64_t)x + ((uint64_t)1 << (n - 1)) < (uint64_t)1 << n ? 0 : 14;
+/* 14 or 18: which way an x outside its range missed it. Every range has 0 in it. */
+static inline uint32_t way(int64_t x) {
+    return x < 0 ? 18 : 14;
 }
 
-/* 0, or 14, or 15: the same, and it is a multiple of 4. */
+/* Whether x fits into n signed bits, or into n bits from 0 up: 0, or 14 or 18. */
+static inline uint32_t fits(int64_t x, unsigned n) {
+    return (uint64_t)x + ((uint64_t)1 << (n - 1)) < (uint64_t)1 << n ? 0 : way(x);
+}
+
+static inline uint32_t fits_unsigned(int64_t x, unsigned n) {
+    return (uint64_t)x < (uint64_t)1 << n ? 0 : way(x);
+}
+
+/* The same of a signed one, and it is a multiple of 4: 0, or 14 or 18, or 15. */
 static inline uint32_t fits4(int64_t x, unsigned n) {
-    return fits(x, n) != 0 ? 14 : (x & 3) != 0 ? 15 : 0;
+    uint32_t missed = fits(x, n);
+    return missed != 0 ? missed : (x & 3) != 0 ? 15 : 0;
 }
 
 /* The first offset at which `width` bytes do not fit any more. */
@@ -177,14 +192,14 @@ static rofteluvi_answer judge(size_t section_len, const uint8_t *records, size_t
             depth--;
             switch (load32(r + 8)) {
             case 38: fault = fits(stack[depth], 5); break;
-            case 39: fault = (uint64_t)stack[depth] < 4096 ? 0 : 14; break;
+            case 39: fault = fits_unsigned(stack[depth], 12); break;
             case 40: fault = fits(stack[depth], 12); break;
             case 41: fault = fits(stack[depth], 16); break;
             case 42: fault = fits4(stack[depth], 18); break;
             case 43: fault = fits(stack[depth], 20); break;
             case 44: fault = fits4(stack[depth], 23); break;
             case 45: fault = fits4(stack[depth], 28); break;
-            default: fault = (uint64_t)stack[depth] <= 0xffffffff ? 0 : 14; break;
+            default: fault = fits_unsigned(stack[depth], 32); break;
             }
             if (fault != 0)
                 goto refused;
@@ -254,7 +269,7 @@ static rofteluvi_answer judge(size_t section_len, const uint8_t *records, size_t
     }
     return depth == 0 ? answer(0, count) : answer(16, count);
 refused:
-    return answer(fault, i);
+    return refusal(fault, i, load64(records + 24 * i));
 }
 
 /* ---- Writing, after all was judged ---- */

@@ -40,7 +40,7 @@ int main(void) {
 
     rofteluvi_answer answer =
         rofteluvi_patch(section, sizeof section, record, sizeof record, row, sizeof row, address, gp);
-    printf("number %" PRIu32 ", place %" PRIu32 ", bytes", answer.number, answer.place);
+    printf("number %" PRIu32 ", place %" PRIu32 ", offset %" PRIu64 ", bytes", answer.number, answer.place, answer.offset);
     for (size_t i = 0; i < sizeof section; i++)
         printf(" %02x", section[i]);
     printf("\n");

@@ -42,10 +42,11 @@ extern "C" {
 #define ROFTELUVI_HAS_GD 32
 
 /* The number of an answer: 0, or why the call was refused. They stand in the order of checking, and the first that applies is
-   the answer: 1 to 3 over the whole call, then 4 to 15 for record 0, for record 1 and so on, then 16.
+   the answer: 1 to 3 over the whole call, then 4 to 15 for record 0, for record 1 and so on, then 16. 18 is tested in 14's place.
 
-   "Record" below: place is the number of the record at fault, from 0. PC is the section's address plus the record's offset,
-   modulo 2^64. (17, a bad line of input, is given by the program `patcher` alone and never by these functions.) */
+   "Record" below: place is the number of the record at fault, from 0, and offset is that record's offset field, as it stands in
+   its bytes. At every other number offset is 0. PC is the section's address plus the record's offset, modulo 2^64. (17, a bad line
+   of input, is given by the program `patcher` alone and never by these functions.) */
 enum {
     /* Done. Place: the number of records. The section is patched. */
     ROFTELUVI_ACCEPTED = 0,
@@ -75,8 +76,11 @@ enum {
     ROFTELUVI_SHIFT_COUNT = 12,
     /* Type 30: the entry taken is zero. Place: record. */
     ROFTELUVI_ASSERTION = 13,
-    /* The value does not fit the field's range. Place: record. */
-    ROFTELUVI_OUT_OF_RANGE = 14,
+    /* The value is above the field's range. Place: record. */
+    ROFTELUVI_ABOVE_RANGE = 14,
+    ROFTELUVI_OUT_OF_RANGE = 14, /* an older name of the same, from when 14 was also said of values below */
+    /* The value is below the field's range. Place: record. */
+    ROFTELUVI_BELOW_RANGE = 18,
     /* The value fits the range, but must be a multiple of 4 and is none. Place: record. */
     ROFTELUVI_NOT_MULTIPLE = 15,
     /* Entries are left on the stack after the last record. Place: the number of records. */
@@ -86,6 +90,7 @@ enum {
 typedef struct {
     uint32_t number; /* 0, or the number of the refusal */
     uint32_t place;  /* what it means is said at each number above */
+    uint64_t offset; /* of the record at fault; 0 where no record is */
 } rofteluvi_answer;
 
 typedef struct {

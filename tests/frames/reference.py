@@ -1,5 +1,5 @@
 #!/usr/bin/env python3
-"""What the patch program must print, worked out from document 01's "Frames" and not from the code or its definitions.
+"""What the patch program must print, worked out from document 01's "Frames" and document 02's A1, and not from the code or its definitions.
 
     reference.py < INPUT > OUTPUT      the expected output
     reference.py large NAME            the input of a large case, on standard output
@@ -15,7 +15,10 @@ DIGITS = b"0123456789abcdefABCDEF"
 
 
 class Refusal(Exception):
-    """A number and its place."""
+    """A number, its place and its offset."""
+
+    def __init__(self, number, place, offset=0):
+        super().__init__(number, place, offset)
 
 
 def frames(data):
@@ -78,22 +81,24 @@ def patch(address, gp, section, rows, records):
             continue
         assert kind == 66, "a type that this reference does not know"
         if symbol > len(rows):
-            raise Refusal(6, number)
+            raise Refusal(6, number, offset)
         if symbol and not word(rows[symbol - 1], 0) & 1:
-            raise Refusal(7, number)
+            raise Refusal(7, number, offset)
         s = word(rows[symbol - 1], 8) if symbol else 0
         if offset + 4 > len(section):
-            raise Refusal(8, number)
+            raise Refusal(8, number, offset)
         pc = (address + offset) % 2**64
         if pc % 4:
-            raise Refusal(9, number)
+            raise Refusal(9, number, offset)
         value = (s + addend - pc) % 2**64
         if value >= 2**63:
             value -= 2**64
-        if not -(2**27) <= value < 2**27:
-            raise Refusal(14, number)
+        if value >= 2**27:
+            raise Refusal(14, number, offset)
+        if value < -(2**27):
+            raise Refusal(18, number, offset)
         if value % 4:
-            raise Refusal(15, number)
+            raise Refusal(15, number, offset)
         # bits [27..18] go to [9..0], bits [17..2] to [25..10]
         old = int.from_bytes(out[offset : offset + 4], "little")
         new = old & 0xFC000000 | (value >> 2 & 0xFFFF) << 10 | value >> 18 & 0x3FF
@@ -106,9 +111,8 @@ def expected(data):
         address, gp, section, rows, records = frames(data)
         after = patch(address, gp, section, rows, records)
     except Refusal as refusal:
-        number, place = refusal.args
-        return "ff%02x%08x\n" % (number, place)
-    lines = ["00%08x" % len(records)]
+        return "ff%02x%08x%016x\n" % refusal.args
+    lines = ["00%08x%016x" % (len(records), 0)]
     lines += ["02" + after[at : at + 64].hex() for at in range(0, len(after), 64)]
     return "\n".join(lines) + "\n"
 

@@ -12,13 +12,20 @@ static struct draft before; /* the last fixed call as it was made */
 
 /* ---- Fixed cases ---- */
 
+/* The offset of an answer to the last fixed call: 4 to 15 and 18 give the record's offset field, the others 0. */
+static uint64_t offset_of(uint32_t number, uint32_t place) {
+    int of_record = (number >= 4 && number <= 15) || number == 18;
+    return of_record ? reference_record(before.records, place).offset : 0;
+}
+
 /* Makes the call; it must be answered like this. */
 static void expect(const char *name, uint32_t number, uint32_t place) {
     before = d;
+    uint64_t offset = offset_of(number, place);
     rofteluvi_answer answer = compare_patch(&d);
-    if (answer.number != number || answer.place != place) {
-        printf("case \"%s\": number %" PRIu32 ", place %" PRIu32 " wanted, both gave %" PRIu32 ", %" PRIu32 "\n", name, number,
-               place, answer.number, answer.place);
+    if (answer.number != number || answer.place != place || answer.offset != offset) {
+        printf("case \"%s\": number %" PRIu32 ", place %" PRIu32 ", offset %" PRIx64 " wanted, both gave %" PRIu32 ", %" PRIu32
+               ", %" PRIx64 "\n", name, number, place, offset, answer.number, answer.place, answer.offset);
         compare_fail(&before, name);
     }
     if (number != 0 && memcmp(before.section, d.section, d.section_len) != 0)
@@ -50,8 +57,9 @@ static void start_empty(void) {
     draft_clear(&d);
 }
 
+/* A push may name any offset: this one is no other record's. */
 static void push(int64_t number) {
-    draft_record(&d, 0, 23, 0, (uint64_t)number);
+    draft_record(&d, 0x7ffffffffffffff7, 23, 0, (uint64_t)number);
 }
 
 static void record(uint64_t offset, uint32_t type, uint32_t symbol, uint64_t addend) {
@@ -123,17 +131,19 @@ static void papers_edges(void) {
     expect("nothing at all", 0, 0);
 
     branch("type 64, 131068", 64, 131068, 0, (uint32_t)0x7fff << 10);
-    branch("type 64, 131072", 64, 131072, ROFTELUVI_OUT_OF_RANGE, 0);
+    branch("type 64, 131072", 64, 131072, ROFTELUVI_ABOVE_RANGE, 0);
+    branch("type 64, -131076", 64, -131076, ROFTELUVI_BELOW_RANGE, 0);
     branch("type 64, 131070", 64, 131070, ROFTELUVI_NOT_MULTIPLE, 0);
-    branch("type 64, 131073", 64, 131073, ROFTELUVI_OUT_OF_RANGE, 0);
+    branch("type 64, 131073", 64, 131073, ROFTELUVI_ABOVE_RANGE, 0);
     branch("type 64, -131072", 64, -131072, 0, (uint32_t)0x8000 << 10);
 
     popped("type 44, -4", 44, -4, 0, 0x03fffc1f);
     popped("type 38, 15", 38, 15, 0, 0x3c00);
-    popped("type 38, 16", 38, 16, ROFTELUVI_OUT_OF_RANGE, 0);
+    popped("type 38, 16", 38, 16, ROFTELUVI_ABOVE_RANGE, 0);
+    popped("type 38, -17", 38, -17, ROFTELUVI_BELOW_RANGE, 0);
     popped("type 38, -16", 38, -16, 0, 0x4000);
     popped("type 39, 4095", 39, 4095, 0, 0x003ffc00);
-    popped("type 39, -1", 39, -1, ROFTELUVI_OUT_OF_RANGE, 0);
+    popped("type 39, -1", 39, -1, ROFTELUVI_BELOW_RANGE, 0);
 
     start(0, 0x7fffffff);
     record(0, 49, 0, 1);
@@ -230,7 +240,7 @@ static void range_edges(void) {
                 if (side == 1 || side == 2)
                     expect("the end of a range", 0, place + 1);
                 else
-                    expect("just outside a range", ROFTELUVI_OUT_OF_RANGE, place);
+                    expect("just outside a range", side == 0 ? ROFTELUVI_BELOW_RANGE : ROFTELUVI_ABOVE_RANGE, place);
                 if (side == 1 || side == 2) {
                     rofteluvi_immediate back = compare_read_back(&d, 0, used);
                     if (back.number != 0 || back.value != value)
@@ -605,7 +615,7 @@ static void first_and_last_places(void) {
     static const uint64_t filled[6] = {0x1018, 0x2128, 0x3230, 0x4340, 0x5450, 0x6560};
     static struct draft tail;
     struct stack stack;
-    for (uint32_t number = ROFTELUVI_UNKNOWN_TYPE; number <= ROFTELUVI_NOT_MULTIPLE; number++)
+    for (unsigned fault = 0; fault < RECORD_FAULTS; fault++)
         for (int i = 0; i < 120; i++) {
             draft_clear(&tail);
             tail.address = 0x1000;
@@ -615,7 +625,7 @@ static void first_and_last_places(void) {
             draft_row(&tail, random_below(64), filled);
             draft_row(&tail, 0, filled);
             stack.depth = 0;
-            generate_fault(&tail, &stack, number);
+            generate_fault(&tail, &stack, record_fault[fault]);
             d = tail;
             compare_patch(&d);
             d = tail;

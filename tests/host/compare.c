@@ -122,8 +122,8 @@ static struct outcome run_patch(struct draft *d, unsigned placing, int thorough)
         }
     if (o.signal_number != 0)
         o.what = "the archive's code was stopped by a signal: memory outside its buffers, or one that is only read";
-    else if (o.got.number != o.want.number || o.got.place != o.want.place)
-        o.what = "number or place";
+    else if (o.got.number != o.want.number || o.got.place != o.want.place || o.got.offset != o.want.offset)
+        o.what = "number, place or offset";
     else if (o.count > 0)
         o.what = "bytes of the section";
     else if (d->records_len > 0 && memcmp(call.records, d->records, d->records_len) != 0)
@@ -198,6 +198,10 @@ void compare_fail(const struct draft *before, const char *what) {
     exit(1);
 }
 
+static void print_answer(const char *whose, rofteluvi_answer a) {
+    printf("%s number %" PRIu32 ", place %" PRIu32 ", offset %" PRIx64 "\n", whose, a.number, a.place, a.offset);
+}
+
 static void report_patch(struct draft *d, unsigned placing) {
     make_small(d, placing);
     struct outcome o = run_patch(d, placing, 1);
@@ -205,8 +209,8 @@ static void report_patch(struct draft *d, unsigned placing) {
     if (o.signal_number != 0)
         printf("archive:   signal %d\n", o.signal_number);
     else
-        printf("archive:   number %" PRIu32 ", place %" PRIu32 "\n", o.got.number, o.got.place);
-    printf("reference: number %" PRIu32 ", place %" PRIu32 "\n", o.want.number, o.want.place);
+        print_answer("archive:  ", o.got);
+    print_answer("reference:", o.want);
     if (o.count > 0)
         printf("section: %zu bytes differ, the first at %zu: archive %02x, reference %02x\n", o.count, o.first, o.got_byte,
                o.want_byte);

@@ -4,11 +4,11 @@
 #include <stdio.h>
 
 enum { TYPES = 102, HIGHER = 101 }; /* types 101 and up share a row */
-enum { NUMBERS = 17 };
+enum { NUMBERS = 19, BAD_FRAME = 17 }; /* 17 is the program's alone */
 
 static uint64_t patch_calls, accepted_calls, accepted_records, longest_accepted, read_back_calls;
 static uint64_t numbers[NUMBERS];             /* calls by number */
-static uint64_t by_type[TYPES][NUMBERS];      /* records of accepted calls (number 0), refused records (4 to 15) */
+static uint64_t by_type[TYPES][NUMBERS];      /* records of accepted calls (number 0), refused records (4 to 15, 18) */
 static uint64_t back_by_type[TYPES][NUMBERS]; /* calls of read back */
 static uint64_t at_place[NUMBERS][2049];      /* calls by number and place */
 
@@ -31,7 +31,7 @@ void coverage_patch(const struct call *call, rofteluvi_answer answer) {
             longest_accepted = records;
         for (size_t i = 0; i < records; i++)
             by_type[row_of(reference_record(call->records, i).type)][0]++;
-    } else if (answer.number >= ROFTELUVI_UNKNOWN_TYPE && answer.number <= ROFTELUVI_NOT_MULTIPLE && answer.place < records) {
+    } else if (answer.number >= ROFTELUVI_UNKNOWN_TYPE && answer.number != ROFTELUVI_STACK_LEFT && answer.place < records) {
         by_type[row_of(reference_record(call->records, answer.place).type)][answer.number]++;
     }
 }
@@ -66,7 +66,7 @@ static int can_meet(uint32_t type, uint32_t number) {
     case ROFTELUVI_STACK_FULL: return between(type, 22, 29);
     case ROFTELUVI_SHIFT_COUNT: return type == 33 || type == 34;
     case ROFTELUVI_ASSERTION: return type == 30;
-    case ROFTELUVI_OUT_OF_RANGE: return between(type, 38, 46) || between(type, 64, 66);
+    case ROFTELUVI_ABOVE_RANGE: case ROFTELUVI_BELOW_RANGE: return between(type, 38, 46) || between(type, 64, 66);
     case ROFTELUVI_NOT_MULTIPLE: return fours;
     default: return 0;
     }
@@ -111,6 +111,8 @@ unsigned coverage_missing(void) {
         }
     }
     for (uint32_t number = 0; number < NUMBERS; number++) {
+        if (number == BAD_FRAME)
+            continue;
         uint32_t first = first_place(number), last = last_place(number), between_them = 0;
         for (uint32_t place = first + 1; place < last; place++)
             between_them += at_place[number][place] > 0;
@@ -140,6 +142,7 @@ void coverage_summary(uint64_t seed) {
            " records, at most %" PRIu64 "), refusals",
            seed, patch_calls, accepted_calls, accepted_records, longest_accepted);
     for (uint32_t number = 1; number < NUMBERS; number++)
-        printf(" %" PRIu32 ":%" PRIu64, number, numbers[number]);
+        if (number != BAD_FRAME)
+            printf(" %" PRIu32 ":%" PRIu64, number, numbers[number]);
     printf(", %" PRIu64 " read back calls, no difference\n", read_back_calls);
 }

@@ -126,16 +126,17 @@ static int64_t inside(uint32_t type) {
     return r.fours ? x - (x % 4 + 4) % 4 : x;
 }
 
-/* One outside its range, often just outside; a multiple of 4 or not. */
-static int64_t outside(uint32_t type) {
+/* One above its range or below it, often just outside; a multiple of 4 or not. */
+static int64_t above(uint32_t type) {
     struct range r = range_of(type);
     int64_t far = (int64_t)(random_next() >> (1 + random_below(28)));
-    switch (random_below(6)) {
-    case 0: case 1: return r.high + 1 + (int64_t)random_below(6);
-    case 2: case 3: return r.low - 1 - (int64_t)random_below(6);
-    case 4: return far > r.high ? far : INT64_MAX;
-    default: return -far < r.low ? -far : INT64_MIN;
-    }
+    return !one_in(3) ? r.high + 1 + (int64_t)random_below(6) : far > r.high ? far : INT64_MAX;
+}
+
+static int64_t below(uint32_t type) {
+    struct range r = range_of(type);
+    int64_t far = (int64_t)(random_next() >> (1 + random_below(28)));
+    return !one_in(3) ? r.low - 1 - (int64_t)random_below(6) : -far < r.low ? -far : INT64_MIN;
 }
 
 /* One in range that is no multiple of 4. */
@@ -323,6 +324,8 @@ static void lower_stack(struct draft *d, struct stack *stack, unsigned most) {
     }
 }
 
+const uint32_t record_fault[RECORD_FAULTS] = {4, 5, 6, 7, 8, 9, 10, 11, 12, 13, 14, 18, 15};
+
 void generate_fault(struct draft *d, struct stack *stack, uint32_t number) {
     static const uint32_t takes_one[] = {24, 30, 31, 38, 39, 40, 41, 42, 43, 44, 45, 46}, takes_two[] = {32, 33, 34, 35, 36};
     static const uint32_t in_fours[] = {42, 44, 45, 64, 65, 66};
@@ -393,13 +396,15 @@ void generate_fault(struct draft *d, struct stack *stack, uint32_t number) {
         push_number(d, stack, 0);
         draft_record(d, interesting(d), 30, symbol_for(d, 30), addend);
         return;
-    case ROFTELUVI_OUT_OF_RANGE:
+    case ROFTELUVI_ABOVE_RANGE:
+    case ROFTELUVI_BELOW_RANGE:
     case ROFTELUVI_NOT_MULTIPLE:
     default:
         type = one_in(2) ? 64 + (uint32_t)random_below(3) : 38 + (uint32_t)random_below(9);
         if (number == ROFTELUVI_NOT_MULTIPLE)
             type = any_of(in_fours, 6);
-        int64_t wanted = number == ROFTELUVI_NOT_MULTIPLE ? between_fours(type) : outside(type);
+        int64_t wanted = number == ROFTELUVI_NOT_MULTIPLE ? between_fours(type)
+                       : number == ROFTELUVI_BELOW_RANGE ? below(type) : above(type);
         offset = offset_for(d, type);
         symbol = symbol_for(d, type);
         if (type >= 64) {
@@ -475,7 +480,7 @@ static void wild_list(struct draft *d) {
         uint32_t symbol = one_in(8) ? (uint32_t)random_below(d->values_len / ROFTELUVI_ROW_BYTES + 3) : symbol_for(d, type);
         uint64_t addend = interesting(d);
         if (type >= 64 && type <= 66 && !one_in(4))
-            addend = addend_for(d, offset, symbol, one_in(8) ? outside(type) : inside(type));
+            addend = addend_for(d, offset, symbol, one_in(16) ? above(type) : one_in(15) ? below(type) : inside(type));
         draft_record(d, offset, type, symbol, addend);
     }
 }
@@ -550,7 +555,7 @@ void generate_call(struct draft *d) {
     }
     grow_list(d, &stack, random_steps());
     if (kind < 26) {
-        generate_fault(d, &stack, ROFTELUVI_UNKNOWN_TYPE + (uint32_t)random_below(12));
+        generate_fault(d, &stack, record_fault[random_below(RECORD_FAULTS)]);
         grow_list(d, &stack, random_below(4)); /* what follows the refused record must not matter */
         return;
     }

@@ -206,7 +206,7 @@ static uint64_t formula(uint32_t type, uint64_t value, uint64_t a, uint64_t pc, 
     }
 }
 
-/* 0, or 14 for a number outside the type's range, or 15 for one in range that is no multiple of 4. */
+/* 0, or 14 for a number above the type's range, 18 for one below it, or 15 for one in range that is no multiple of 4. */
 static uint32_t fault_of_immediate(uint32_t type, int64_t x) {
     int64_t lowest, highest;
     int fours = 0;
@@ -222,8 +222,10 @@ static uint32_t fault_of_immediate(uint32_t type, int64_t x) {
     case 46: lowest = 0; highest = 4294967295; break;
     default: return 0;
     }
-    if (x < lowest || x > highest)
-        return ROFTELUVI_OUT_OF_RANGE;
+    if (x > highest)
+        return ROFTELUVI_ABOVE_RANGE;
+    if (x < lowest)
+        return ROFTELUVI_BELOW_RANGE;
     if (fours && x % 4 != 0)
         return ROFTELUVI_NOT_MULTIPLE;
     return 0;
@@ -411,10 +413,12 @@ static void write_record(const struct call *call, const struct record *r, int64_
     }
 }
 
+/* An answer that is about no record. */
 static rofteluvi_answer answer(uint32_t number, size_t place) {
     rofteluvi_answer a;
     a.number = number;
     a.place = (uint32_t)place;
+    a.offset = 0;
     return a;
 }
 
@@ -441,8 +445,11 @@ rofteluvi_answer reference_patch(const struct call *call) {
     for (size_t i = 0; i < records; i++) {
         struct record r = reference_record(call->records, i);
         uint32_t fault = reference_judge(call, &r, &stack, &value);
-        if (fault != 0)
-            return answer(fault, i);
+        if (fault != 0) {
+            rofteluvi_answer refused = answer(fault, i);
+            refused.offset = r.offset;
+            return refused;
+        }
     }
     if (stack.depth > 0)
         return answer(ROFTELUVI_STACK_LEFT, records);

@@ -36,7 +36,7 @@ rofteluvi_answer reference_patch(const struct call *call);
 rofteluvi_immediate reference_read_back(const uint8_t *section, size_t section_len, uint64_t address, uint64_t offset,
                                         uint32_t type);
 
-/* Checks one record, given the stack before it: 0, or the number of its refusal, 4 to 15. If it is 0, the stack becomes the one
+/* Checks one record, given the stack before it: 0, or the number of its refusal, 4 to 15 or 18. If it is 0, the stack becomes the one
    after it, and *value the number that the record puts into the section, where it puts one. No section byte is looked at. */
 uint32_t reference_judge(const struct call *call, const struct record *r, struct stack *stack, int64_t *value);
 

@@ -60,12 +60,14 @@ static void see(uint64_t place) {
     plain(place, 46);
 }
 
-/* Has the reference patch. Its answer must be this number, at the first record if it is a refusal. */
+/* Has the reference patch. Its answer must be this number, at the first record and with its offset if it is a refusal. */
 static void patch(uint32_t type, uint32_t number) {
     struct call call = draft_call(&d);
     rofteluvi_answer answer = reference_patch(&call);
-    if (answer.number != number || answer.place != (number == 0 ? d.records_len / ROFTELUVI_RECORD_BYTES : 0)) {
-        fprintf(stderr, "types: type %" PRIu32 ": number %" PRIu32 ", place %" PRIu32 "\n", type, answer.number, answer.place);
+    if (answer.number != number || answer.place != (number == 0 ? d.records_len / ROFTELUVI_RECORD_BYTES : 0) ||
+        answer.offset != (number == 0 ? 0 : reference_record(d.records, 0).offset)) {
+        fprintf(stderr, "types: type %" PRIu32 ": number %" PRIu32 ", place %" PRIu32 ", offset %" PRIx64 "\n", type,
+                answer.number, answer.place, answer.offset);
         exit(1);
     }
 }

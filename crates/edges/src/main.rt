@@ -1,5 +1,6 @@
 // Runs the edges of document 01 that are not proved as its table, and a few more. Each is a call of its own, on a section of one word 0, at
-// section address 0, with GP 0 and no value rows. Each prints a line: the edge, the number of refusal, the place, and the word afterwards.
+// section address 0, with GP 0 and no value rows. Each prints a line: the edge, the number of refusal, the place, the offset and the word
+// afterwards.
 // What the document says to each stands in the file `stdout`, worked out from the document and not from the program.
 use libc::STDOUT_FILENO;
 use patch::Answer;
@@ -52,12 +53,14 @@ fn store(bytes: &mut [u8], r: Rela)
     bytes_le::put(&mut bytes[16..], 8, numbers::bits(r.addend));
 }
 
-fn print_line(edge: &[u8], number: u32, place: u32, word: u64) {
+fn print_line(edge: &[u8], number: u32, place: u32, offset: u64, word: u64) {
     io::write_all(STDOUT_FILENO, edge);
     io::write_all(STDOUT_FILENO, b": ");
     io::print_decimal(STDOUT_FILENO, number as u64);
     io::write_all(STDOUT_FILENO, b" ");
     io::print_decimal(STDOUT_FILENO, place as u64);
+    io::write_all(STDOUT_FILENO, b" ");
+    io::print_hex(STDOUT_FILENO, offset, 16);
     io::write_all(STDOUT_FILENO, b" ");
     io::print_hex(STDOUT_FILENO, word, 8);
     io::write_all(STDOUT_FILENO, b"\n");
@@ -68,8 +71,8 @@ fn run(edge: &[u8], records: &[u8]) {
     let answer = patch::patch(&mut section, records, b"", 0, 0);
     let word = bytes_le::get_u32(&section, 0);
     match answer {
-        Answer::Patched(count) => print_line(edge, 0, count, word),
-        Answer::Refused(number, place) => print_line(edge, number, place, word),
+        Answer::Patched(count) => print_line(edge, 0, count, 0, word),
+        Answer::Refused(number, place, offset) => print_line(edge, number, place, offset, word),
     }
 }
 
@@ -169,6 +172,12 @@ fn more_of_offsets() {
     one(b"type 47 at 4", record_at(4, 47, 0, 15));
     one(b"type 1 at 2^64-1", record_at(LAST, 1, 0, 15));
     two(b"type 23 at 2^64-1", record_at(LAST, 23, 0, 15), plain(38));
+    two(
+        b"type 23 at 2^64-1, then type 30 at 7",
+        record_at(LAST, 23, 0, 0),
+        record_at(7, 30, 0, 0),
+    );
+    one(b"type 23 at 2^64-1 alone", record_at(LAST, 23, 0, 15));
     one(b"type 0 at 2^64-1", record_at(LAST, 0, 0, 15));
 }
 

@@ -6,15 +6,15 @@ use mathlib.Core.Bool.{Bool, true, false, not, _&&_, _||_, true≢false}
 use mathlib.Core.List.{List, [], _∷_}
 use mathlib.Core.Logic.{_⊎_, inl, inr, _≢_}
 use mathlib.Core.Path.{_≡_, refl, sym, ap, ap₂, _∙_, subst}
-use borrow.Author.Tests.{lt-ltb, le-ltb}
+use borrow.Author.Tests.{ltb-false, lt-ltb, le-ltb}
 use lib.Dec.{T, eqb, ltb, leb, eqb→eq, ltb→lt, leb→le}
 use lib.IntN.{ℤ, pos, negsuc, negℤ, natAbs}
 use lib.Pow.{pow-pos, pow-add, suc-ones, shr-shr, mod-pow-add, mod-mod-pow, field, not-mod}
-use lib.Signed.{mag}
+use lib.Signed.{ltZ, mag}
 use Rattle.meaning.specs.Numbers.{signed, bitsOf}
 use Rattle.meaning.specs.Table.{Part, bits_⋯_to_⋯_, Accepted, from_to_, signed-multiple-of-4, any}
 use Rattle.meaning.specs.Field.{many, low, at, slice, splice, put, wide, lowest, bare}
-use Rattle.meaning.specs.Checks.{between, beyond, notMultiple}
+use Rattle.meaning.specs.Checks.{above, below, notMultiple}
 use Rattle.meaning.specs.ReadBack.{fieldValue}
 use Rattle.meaning.proofs.Sound.{inside, apart, apartFrom, adjoining, soundParts, holdsRange}
 use Rattle.lemmas.specs.Look.{both}
@@ -179,9 +179,9 @@ passes true e = tt
 passes false e = absurd (true≢false e)
 
 -- A signed range holds numbers of that many bits.
-signed-range : (m l h : ℕ) (z : ℤ) → suc l ≡ m → suc h ≡ m → T (between (negsuc l) (pos h) z) → mag z < m
-signed-range m l h (pos a) e f t = let g = leb→le a h t in omega arith
-signed-range m l h (negsuc a) e f t = let g = leb→le a l (both (leb a l) true t .0) in omega arith
+signed-range : (m l h : ℕ) (z : ℤ) → suc l ≡ m → suc h ≡ m → ltZ (pos h) z ≡ false → ltZ z (negsuc l) ≡ false → mag z < m
+signed-range m l h (pos a) e f up down = let g = ltb-false h a up in omega arith
+signed-range m l h (negsuc a) e f up down = let g = ltb-false l a down in omega arith
 
 -- A multiple of 4 has two zeros below.
 two-zeros : (w : ℕ) (z : ℤ) → 2 ≤ w → natAbs z % 4 ≡ 0 → bitsOf w z % 2 ^ 2 ≡ 0
@@ -197,46 +197,44 @@ no-zeros k x e = rw e (mod-one x)
 
 -- Where the range holds the value and the field has the value's bits, of which there are w, the field's value is the value.
 pub range-back : (w : ℕ) (parts : List Part) (range : Accepted) (z : ℤ) (held : ℕ) → wide parts + lowest parts ≤ w → T (holdsRange parts range) →
-    range ≢ any → beyond range z ≡ false → notMultiple range z ≡ false →
+    range ≢ any → above range z ≡ false → below range z ≡ false → notMultiple range z ≡ false →
     bare parts held ≡ slice (lowest parts) (wide parts) (bitsOf w z) → fieldValue parts range held ≡ z
 unfolding holdsRange
-range-back w parts (from pos l to pos h) (pos a) held fits t n b m e =
+range-back w parts (from pos l to pos h) (pos a) held fits t n up down m e =
     let (t₂, low) = both (eqb l 0 && eqb (suc h) (2 ^ wide parts)) (eqb (lowest parts) 0) t in
     let last = eqb→eq (suc h) (2 ^ wide parts) (both (eqb l 0) (eqb (suc h) (2 ^ wide parts)) t₂ .1) in
     let none = eqb→eq (lowest parts) 0 low in
-    let most = leb→le a h (both (leb l a) (leb a h) (passes (leb l a && leb a h) b) .1) in
+    let most = ltb-false h a up in
     let all : wide parts ≡ wide parts + lowest parts = omega arith in
     let small : a < 2 ^ wide parts = omega arith in
     ap pos (ap (λ (y : ℕ). y * 2 ^ lowest parts) e
     ∙ unsigned-back (lowest parts) (wide parts) a (no-zeros (lowest parts) a none) (subst (λ (j : ℕ). a < 2 ^ j) all small))
-range-back w parts (from pos l to pos h) (negsuc a) held fits t n b m e = absurd (true≢false b)
-range-back w parts (from negsuc l to pos h) z held fits t n b m e =
+range-back w parts (from pos l to pos h) (negsuc a) held fits t n up down m e = absurd (true≢false down)
+range-back w parts (from negsuc l to pos h) z held fits t n up down m e =
     let half : ℕ = 2 ^ (wide parts - 1) in
     let (t₃, some) = both (eqb (suc l) half && eqb (suc h) half && eqb (lowest parts) 0) (leb 1 (wide parts)) t in
     let (t₂, low) = both (eqb (suc l) half && eqb (suc h) half) (eqb (lowest parts) 0) t₃ in
     let (least, most) = both (eqb (suc l) half) (eqb (suc h) half) t₂ in
     let none = eqb→eq (lowest parts) 0 low in
     let all : wide parts - 1 ≡ wide parts + lowest parts - 1 = omega arith in
-    let small = signed-range half l h z (eqb→eq (suc l) half least) (eqb→eq (suc h) half most) (passes (between (negsuc l) (pos h) z) b) in
+    let small = signed-range half l h z (eqb→eq (suc l) half least) (eqb→eq (suc h) half most) up down in
     ap (λ (y : ℕ). signed (wide parts + lowest parts) (y * 2 ^ lowest parts)) e
     ∙ signed-back w (lowest parts) (wide parts) z (leb→le 1 (wide parts) some) fits
     (no-zeros (lowest parts) (bitsOf w z) none) (subst (λ (j : ℕ). mag z < 2 ^ j) all small)
-range-back w parts (from pos l to negsuc h) z held fits t n b m e = absurd t
-range-back w parts (from negsuc l to negsuc h) z held fits t n b m e = absurd t
-range-back w parts (signed-multiple-of-4 k) z held fits t n b m e =
+range-back w parts (from pos l to negsuc h) z held fits t n up down m e = absurd t
+range-back w parts (from negsuc l to negsuc h) z held fits t n up down m e = absurd t
+range-back w parts (signed-multiple-of-4 k) z held fits t n up down m e =
     let half : ℕ = 2 ^ (k - 1) in
     let (t₂, some) = both (eqb k (wide parts + lowest parts) && eqb (lowest parts) 2) (leb 1 (wide parts)) t in
     let (all, low) = both (eqb k (wide parts + lowest parts)) (eqb (lowest parts) 2) t₂ in
     let whole = eqb→eq k (wide parts + lowest parts) all in
     let two = eqb→eq (lowest parts) 2 low in
     let least = suc-ones (k - 1) in
-    let inside = passes (between (negℤ (pos half)) (pos (half - 1)) z) b in
-    let small = signed-range half (half - 1) (half - 1) z least least
-    (subst (λ (y : ℕ). T (between (negℤ (pos y)) (pos (half - 1)) z)) (sym least) inside) in
+    let small = signed-range half (half - 1) (half - 1) z least least up (subst (λ (y : ℕ). ltZ z (negℤ (pos y)) ≡ false) (sym least) down) in
     let four = eqb→eq (natAbs z % 4) 0 (passes (eqb (natAbs z % 4) 0) m) in
     let zeros = two-zeros w z (omega arith) four in
     ap₂ (λ (j y : ℕ). signed j (y * 2 ^ lowest parts)) whole e
     ∙ signed-back w (lowest parts) (wide parts) z (leb→le 1 (wide parts) some) fits
     (subst (λ (j : ℕ). bitsOf w z % 2 ^ j ≡ 0) (sym two) zeros)
     (subst (λ (j : ℕ). mag z < 2 ^ (j - 1)) whole small)
-range-back w parts any z held fits t n b m e = absurd (n refl)
+range-back w parts any z held fits t n up down m e = absurd (n refl)

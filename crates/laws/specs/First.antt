@@ -7,7 +7,7 @@ use mathlib.Core.Logic.{_↔_}
 use mathlib.Core.Path.{_≡_, refl, ap}
 use Rattle.meaning.specs.Call.{Setting, Call, Record, does, recordsOf, rowsOf}
 use Rattle.meaning.specs.Stack.{Stack, after}
-use Rattle.meaning.specs.Checks.{Answer, answer, ofRecord, ofRecords, ofMasks, checks}
+use Rattle.meaning.specs.Checks.{Answer, ofRecord, ofRecords, ofMasks, checks}
 use Rattle.meaning.specs.Patch.{answerOf}
 pub use Rattle.lemmas.specs.First.{Every, Passes, Numbered, nth, every-append, every-left, every-right, every-nth, nth-every}
 pub use Rattle.lemmas.specs.First.{first-passed, first-at, zero-passes}
@@ -42,8 +42,8 @@ accepted-exactly c records = (
   (λ p. ap (λ (a : Answer). a .number) (first-passed (checks c records) _ (nth-every Passes (checks c records) p))),
 )
 
--- A call that some check refuses answers with the number and the place of the first that fails.
+-- A call that some check refuses answers with the number, the place and the offset of the first that fails.
 pub refused-by-the-first : (c : Call) (records : List ℕ) (n : ℕ) → nth (checks c records) n .fails ≡ true →
     ((m : ℕ) → m < n → nth (checks c records) m .fails ≡ false) →
-    answerOf c records ≡ answer (nth (checks c records) n .number) (nth (checks c records) n .place)
+    answerOf c records ≡ nth (checks c records) n .refusal
 refused-by-the-first c records n p q = first-at (checks c records) _ n p q

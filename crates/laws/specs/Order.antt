@@ -1,5 +1,6 @@
 -- Demand 3: groups of records may be taken in any order that names each once and keeps, of any two groups that may not change
--- places, the one first that came first. An accepted call is then accepted with the same answer, and leaves the same section.
+-- places, the one first that came first. An accepted call is then accepted with the same number, place and offset, and leaves the
+-- same section.
 use Prim.Native.Nat.{ℕ, zero, suc, _+_, _*_, _/_, _%_, _≤_, _<_}
 use native.Mathlib.Nat.{zero-add, suc-add, suc-mul, zero-lt-suc, div-zero, zero-div, div-add-mod', mul-add-div-right}
 use native.Mathlib.Omega.{arith}
@@ -203,7 +204,8 @@ module _ (c : Call) where
       )
 
   -- Groups, an order that names each once and keeps of any two that may not change places the first ahead, and a call that is accepted
-  -- with the groups as they came: with the groups in that order the answer is the same, and so is the section after it.
+  -- with the groups as they came: with the groups in that order the answer is the same, its number, its place and its offset, and so is
+  -- the section after it.
   pub order-holds : (s : List ℕ) (gs : List (List ℕ)) (order : List ℕ) → c .setting .size ≡ length s →
       Groups c gs → T (eachOnce (length gs) order) → T (keepsOrder c gs order) →
       answerOf c (joined gs) .number ≡ 0 →

@@ -195,7 +195,7 @@ module _ (c : Call) (s records : List ℕ) (size : c .setting .size ≡ length s
       let holds = sound-word card (r .type) source parts range type .1 in
       let fits = le-trans (short-word card (r .type) source parts range type n) wide-enough in
       field-read ∙ ap (immediate (answer 0 0))
-      (range-back (card .width) parts range taken (wordAt (r .offset) section) fits holds n (there .own .in-range) (there .own .multiple) bits-read)
+      (range-back (card .width) parts range taken (wordAt (r .offset) section) fits holds n (there .own .not-above) (there .own .not-below) (there .own .multiple) bits-read)
 
   -- Of a type with no range check, it gives the bare field of the value: the bits of the value that the type puts.
   pub read-back-bare : range ≡ any →

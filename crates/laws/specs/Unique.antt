@@ -1,5 +1,5 @@
--- The contracts determine the result: two results that one allows, for the same input, are equal, in number, place, value and every byte
--- of the section. (The other buffers are only read.)
+-- The contracts determine the result: two results that one allows, for the same input, are equal, in number, place, offset, value and every
+-- byte of the section. (The other buffers are only read.)
 use Prim.Native.Nat.{ℕ}
 use mathlib.Core.List.{List}
 use mathlib.Core.Path.{_≡_, refl, sym, ap, _∙_}
@@ -22,9 +22,9 @@ use Rattle.rofteluvi.proofs.rofteluvi_read_back.Reads as rofteluvi-read-back
 -- one answer by document 01's numbers, one answer of the code
 answer-unique : (q r : Answer) {a : C.Answer} → Answers q a → Answers r a → q ≡ r
 answer-unique (Patched m) (Patched n) x y = ap (λ (b : C.Answer). Patched (b .place)) (x .says ∙ sym (y .says))
-answer-unique (Patched m) (Refused n p) x y = absurd (y .proper (ap (λ (b : C.Answer). b .number) (y .says ∙ sym (x .says))))
-answer-unique (Refused m p) (Patched n) x y = absurd (x .proper (ap (λ (b : C.Answer). b .number) (x .says ∙ sym (y .says))))
-answer-unique (Refused m p) (Refused n q) x y = ap (λ (b : C.Answer). Refused (b .number) (b .place)) (x .says ∙ sym (y .says))
+answer-unique (Patched m) (Refused n p o) x y = absurd (y .proper (ap (λ (b : C.Answer). b .number) (y .says ∙ sym (x .says))))
+answer-unique (Refused m p o) (Patched n) x y = absurd (x .proper (ap (λ (b : C.Answer). b .number) (x .says ∙ sym (y .says))))
+answer-unique (Refused l m n) (Refused o p q) x y = ap (λ (b : C.Answer). Refused (b .number) (b .place) (b .offset)) (x .says ∙ sym (y .says))
 
 module _ (section records values : List ℕ) (address gp : ℕ) where
   -- patch, called from Rattle
@@ -36,7 +36,7 @@ module _ (section records values : List ℕ) (address gp : ℕ) where
   pub rofteluvi-patch-unique : (q r : RofteluviAnswer) (s t : List ℕ) → Face.Patches section records values address gp q s →
       Face.Patches section records values address gp r t → (q ≡ r) × (s ≡ t)
   rofteluvi-patch-unique q r s t x y =
-      (ap (λ (b : C.Answer). record { number = b .number; place = b .place }) (x .says ∙ sym (y .says)), x .leaves ∙ sym (y .leaves))
+      (ap (λ (b : C.Answer). record { number = b .number; place = b .place; offset = b .offset }) (x .says ∙ sym (y .says)), x .leaves ∙ sym (y .leaves))
 
 module _ (section : List ℕ) (address offset type : ℕ) where
   -- read back, called from Rattle and from C

@@ -6,7 +6,7 @@ use mathlib.Core.Bool.{Bool, true, false, cond, false≢true}
 use mathlib.Core.List.{List, [], _∷_, _++_}
 use mathlib.Core.Path.{_≡_, refl, sym, ap, _∙_}
 use lib.ListN.{getD}
-use Rattle.meaning.specs.Checks.{Answer, answer, Check, check, first, ofMasks}
+use Rattle.meaning.specs.Checks.{Answer, Check, check, first, ofMasks}
 
 -- ---- lists of checks
 
@@ -19,7 +19,7 @@ abbrev pub Passes : Check → Type 0
 Passes k = k .fails ≡ false
 
 abbrev pub Numbered : Check → Type 0
-Numbered k = zero < k .number
+Numbered k = zero < k .refusal .number
 
 -- the check at a place of the list; past its end, one that passes
 abbrev pub nth : List Check → ℕ → Check
@@ -52,7 +52,7 @@ module _ (P : Check → Type 0) where
 pub first-append : (ks ls : List Check) (a : Answer) → first (ks ++ ls) a ≡ first ks (first ls a)
 unfolding first
 first-append [] ls a = refl
-first-append (k ∷ ks) ls a = ap (cond (k .fails) (answer (k .number) (k .place))) (first-append ks ls a)
+first-append (k ∷ ks) ls a = ap (cond (k .fails) (k .refusal)) (first-append ks ls a)
 
 pub first-passed : (ks : List Check) (a : Answer) → Every Passes ks → first ks a ≡ a
 unfolding first
@@ -60,7 +60,7 @@ first-passed [] a p = refl
 first-passed (k ∷ ks) a p = rw (p .0) (first-passed ks a (p .1))
 
 pub first-at : (ks : List Check) (a : Answer) (n : ℕ) → nth ks n .fails ≡ true → ((m : ℕ) → m < n → nth ks m .fails ≡ false) →
-    first ks a ≡ answer (nth ks n .number) (nth ks n .place)
+    first ks a ≡ nth ks n .refusal
 unfolding first
 first-at [] a n p q = absurd (false≢true p)
 first-at (k ∷ ks) a zero p q = rw p
@@ -83,11 +83,11 @@ masks-numbered i [] = tt
 masks-numbered i (r ∷ rows) = (omega arith, masks-numbered (suc i) rows)
 
 -- A list that answers with a refusal answers so whatever comes after it.
-pub first-stops : (ks : List Check) (a rest : Answer) (n p : ℕ) → a .number ≡ 0 → (n ≡ 0 → ⊥) → answer n p ≡ first ks a → first ks rest ≡ answer n p
+pub first-stops : (ks : List Check) (a rest r : Answer) → a .number ≡ 0 → (r .number ≡ 0 → ⊥) → r ≡ first ks a → first ks rest ≡ r
 unfolding first
-first-stops [] a rest n p z h e = absurd (h (ap (λ (x : Answer). x .number) e ∙ z))
-first-stops (k ∷ ks) a rest n p z h e = go (k .fails) refl (first-stops ks a rest n p z h)
+first-stops [] a rest r z h e = absurd (h (ap (λ (x : Answer). x .number) e ∙ z))
+first-stops (k ∷ ks) a rest r z h e = go (k .fails) refl (first-stops ks a rest r z h)
   where
-    go : (b : Bool) → k .fails ≡ b → (answer n p ≡ first ks a → first ks rest ≡ answer n p) → first (k ∷ ks) rest ≡ answer n p
+    go : (b : Bool) → k .fails ≡ b → (r ≡ first ks a → first ks rest ≡ r) → first (k ∷ ks) rest ≡ r
     go true f q = rw f (sym (rw f at e))
     go false f q = rw f (q (rw f at e))

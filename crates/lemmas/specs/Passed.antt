@@ -1,18 +1,20 @@
 -- What passed where no check refuses, by name: made once from the lists of checks.
 use Prim.Native.Nat.{ℕ, _%_}
+use native.Mathlib.Nat.{ne-of-gt}
 use native.Mathlib.Omega.{arith}
-use mathlib.Core.Bool.{false, not}
-use mathlib.Core.List.{List, []}
-use mathlib.Core.Path.{_≡_}
+use mathlib.Core.Bool.{Bool, true, false, cond, not}
+use mathlib.Core.List.{List, [], _∷_}
+use mathlib.Core.Path.{_≡_, refl}
+use borrow.Author.Tests.{ne-eqb}
 use lib.Dec.{eqb, ltb}
 use lib.ListN.{length}
 use Rattle.meaning.specs.Table.{Semantics}
 use Rattle.meaning.specs.Call.{Setting, Call, Record, rowBytes, rowsOf, recordsOf, PC}
 use Rattle.meaning.specs.Stack.{Stack, depth, taken, after}
-use Rattle.meaning.specs.Checks.{answer, first, sectionLimit, valuesLimit, refused, uses, past, absent, writes, outside, ofWord, unaligned, ofOperation, beyond, notMultiple, wordValue, ofRecord, ofRecords, ofMasks, checks}
+use Rattle.meaning.specs.Checks.{Answer, answer, answerAt, Check, first, sectionLimit, valuesLimit, refused, uses, past, absent, writes, outside, ofWord, unaligned, ofOperation, above, below, notMultiple, wordValue, ofRecord, ofRecords, ofMasks, checks}
 use Rattle.lemmas.specs.First.{Every, Passes, Numbered, zero-passes, every-left, every-right}
 
--- 4 to 15, of a record with the stack before it
+-- 4 to 15 and 18, of a record with the stack before it
 pub record Passed (c : Setting) (r : Record) (d : Semantics) (st : Stack) : Type 0 where
   pub named : eqb (refused d) 4 ≡ false
   pub not-the-loaders : eqb (refused d) 5 ≡ false
@@ -24,11 +26,12 @@ pub record Passed (c : Setting) (r : Record) (d : Semantics) (st : Stack) : Type
   pub room : ltb depth (length (after c r d st)) ≡ false
   pub count : eqb (ofOperation c d st) 12 ≡ false
   pub not-zero : eqb (ofOperation c d st) 13 ≡ false
-  pub in-range : ofWord d (λ source range. beyond range (wordValue c r st source)) ≡ false
+  pub not-above : ofWord d (λ source range. above range (wordValue c r st source)) ≡ false
+  pub not-below : ofWord d (λ source range. below range (wordValue c r st source)) ≡ false
   pub multiple : ofWord d (λ source range. notMultiple range (wordValue c r st source)) ≡ false
 
 pub passed : (c : Setting) (i : ℕ) (r : Record) (d : Semantics) (st : Stack) → Every Passes (ofRecord c i r d st) → Passed c r d st
-passed c i r d st (a4, (a5, (a6, (a7, (a8, (a9, (a10, (a11, (a12, (a13, (a14, (a15, end)))))))))))) =
+passed c i r d st (a4, (a5, (a6, (a7, (a8, (a9, (a10, (a11, (a12, (a13, (a14, (a18, (a15, end))))))))))))) =
     record {
       named = a4;
       not-the-loaders = a5;
@@ -40,7 +43,8 @@ passed c i r d st (a4, (a5, (a6, (a7, (a8, (a9, (a10, (a11, (a12, (a13, (a14, (a
       room = a11;
       count = a12;
       not-zero = a13;
-      in-range = a14;
+      not-above = a14;
+      not-below = a18;
       multiple = a15;
     }
 
@@ -48,12 +52,40 @@ passed c i r d st (a4, (a5, (a6, (a7, (a8, (a9, (a10, (a11, (a12, (a13, (a14, (a
 pub record-numbered : (c : Setting) (i : ℕ) (r : Record) (d : Semantics) (st : Stack) → Every Numbered (ofRecord c i r d st)
 record-numbered c i r d st = omega arith
 
--- The number of a record's refusal, 0 where every check of it passes. Its place is the record's, whatever its number.
+-- The number of a record's refusal, 0 where every check of it passes. Its place is the record's number and its offset the record's, whatever
+-- its own number.
 abbrev pub refusalOf : Setting → Record → Semantics → Stack → ℕ
 refusalOf c r d st = first (ofRecord c 0 r d st) (answer 0 0) .number
 
 pub not-refused : (c : Setting) (r : Record) (d : Semantics) (st : Stack) → refusalOf c r d st ≡ 0 → Passed c r d st
 not-refused c r d st e = passed c 0 r d st (zero-passes (ofRecord c 0 r d st) (answer 0 0) (record-numbered c 0 r d st) e)
+
+-- ---- the place and the offset
+
+-- a list of checks, each at the place i and with the offset o
+unfoldable pub placed : ℕ → ℕ → List Check → List Check
+placed i o [] = []
+placed i o (k ∷ ks) = record { refusal = answerAt (k .refusal .number) i o; fails = k .fails } ∷ placed i o ks
+
+first-placed : (i o : ℕ) (ks : List Check) (a : Answer) → Every Numbered ks →
+    first (placed i o ks) a ≡ cond (eqb (first ks (answer 0 0) .number) 0) a (answerAt (first ks (answer 0 0) .number) i o)
+unfolding first placed
+first-placed i o [] a p = refl
+first-placed i o (k ∷ ks) a p = go (k .fails) refl (first-placed i o ks a (p .1))
+  where
+    go : (b : Bool) → k .fails ≡ b →
+        first (placed i o ks) a ≡ cond (eqb (first ks (answer 0 0) .number) 0) a (answerAt (first ks (answer 0 0) .number) i o) →
+        first (placed i o (k ∷ ks)) a ≡ cond (eqb (first (k ∷ ks) (answer 0 0) .number) 0) a (answerAt (first (k ∷ ks) (answer 0 0) .number) i o)
+    go true e rest = simp (e, ne-eqb (k .refusal .number) 0 (ne-of-gt (p .0)))
+    go false e rest = rw e rest
+
+-- The checks of record i answer its refusal at i, with its offset, or leave the answer to what comes after.
+pub first-record : (c : Setting) (i : ℕ) (r : Record) (d : Semantics) (st : Stack) (a : Answer) →
+    first (ofRecord c i r d st) a ≡ cond (eqb (refusalOf c r d st) 0) a (answerAt (refusalOf c r d st) i (r .offset))
+unfolding placed
+first-record c i r d st a = first-placed i (r .offset) (ofRecord c 0 r d st) a (record-numbered c 0 r d st)
+
+-- ---- the call
 
 -- 1 to 3, and the records', of a call
 pub record PassedCall (c : Call) (records : List ℕ) : Type 0 where

@@ -26,6 +26,7 @@ pub record Case : Type 0 where
   pub gp : ℕ
   pub number : ℕ
   pub place : ℕ
+  pub offset : ℕ
   pub left : List ℕ
 
 unfoldable pub same : List ℕ → List ℕ → Bool
@@ -38,7 +39,8 @@ unfoldable pub holds : Case → Bool
 holds e =
     let c = call (e .section) (e .values) (e .address) (e .gp) in
     let a = answerOf c (e .records) in
-    eqb (a .number) (e .number) && eqb (a .place) (e .place) && same (sectionOf c (e .records) (e .section)) (e .left)
+    eqb (a .number) (e .number) && eqb (a .place) (e .place) && eqb (a .offset) (e .offset) &&
+    same (sectionOf c (e .records) (e .section)) (e .left)
 
 unfoldable pub allHold : List Case → Bool
 allHold [] = true

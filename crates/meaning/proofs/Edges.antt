@@ -1,5 +1,5 @@
 -- The edges that document 01 marks P, together as one table, and one computed test of it.
-use Prim.Native.Nat.{ℕ, _*_, _^_}
+use Prim.Native.Nat.{ℕ, _+_, _-_, _*_, _^_}
 use mathlib.Core.List.{List, [], _∷_, _++_}
 use lib.Dec.{T}
 use lib.ListN.{replicate}
@@ -14,10 +14,25 @@ use Rattle.meaning.proofs.Cases.{rela, push, minus, Case, same, holds, 
 pub rowS : ℕ → List ℕ
 rowS s = bytesOf 8 1 ++ bytesOf 8 s ++ replicate 40 0
 
--- a call at address 0 on a section that holds the word 0, with S or not
-pub on : List ℕ → List ℕ → ℕ → ℕ → List ℕ → Case
-on records values number place left =
-    record { section = bytesOf 4 0; records = records; values = values; address = 0; gp = 0; number = number; place = place; left = left }
+-- an accepted call at address 0, on a section that holds the word 0
+pub gives : List ℕ → ℕ → List ℕ → Case
+gives records place left =
+    record { section = bytesOf 4 0; records = records; values = []; address = 0; gp = 0; number = 0; place = place; offset = 0; left = left }
+
+-- a refused one, on a section that holds two of them
+pub refused : List ℕ → ℕ → ℕ → ℕ → Case
+refused records number place offset =
+    record {
+      section = bytesOf 8 0;
+      records = records;
+      values = [];
+      address = 0;
+      gp = 0;
+      number = number;
+      place = place;
+      offset = offset;
+      left = bytesOf 8 0;
+    }
 
 pub edges : List Case
 edges =
@@ -30,18 +45,21 @@ edges =
       gp = 0;
       number = 0;
       place = 1;
+      offset = 0;
       left = 0 ∷ 0x10 ∷ 0 ∷ 0x50 ∷ [];
     } ∷
     -- empty list, place 0, section unchanged
-    record { section = 1 ∷ 2 ∷ 3 ∷ []; records = []; values = []; address = 7; gp = 0; number = 0; place = 0; left = 1 ∷ 2 ∷ 3 ∷ [] } ∷
-    -- type 64 with 131,068 gives field 7fffh; 131,072 is 14; 131,070 is 15
-    on (rela 0 64 0 131068) [] 0 1 (bytesOf 4 (0x7fff * 2 ^ 10)) ∷
-    on (rela 0 64 0 131072) [] 14 0 (bytesOf 4 0) ∷
-    on (rela 0 64 0 131070) [] 15 0 (bytesOf 4 0) ∷
+    record { section = 1 ∷ 2 ∷ 3 ∷ []; records = []; values = []; address = 7; gp = 0; number = 0; place = 0; offset = 0; left = 1 ∷ 2 ∷ 3 ∷ [] } ∷
+    -- type 64 with 131,068 gives field 7fffh; 131,072 is 14, -131,076 is 18; 131,070 is 15. Of the refused the PC is 4.
+    gives (rela 0 64 0 131068) 1 (bytesOf 4 (0x7fff * 2 ^ 10)) ∷
+    refused (rela 4 64 0 (4 + 131072)) 14 0 4 ∷
+    refused (rela 4 64 0 (minus (131076 - 4))) 18 0 4 ∷
+    refused (rela 4 64 0 (4 + 131070)) 15 0 4 ∷
     -- type 44, value -4, word 0 gives 03fffc1fh
-    on (push (minus 4) ++ rela 0 44 0 0) [] 0 2 (bytesOf 4 0x03fffc1f) ∷
-    -- type 38: 16 is 14
-    on (push 16 ++ rela 0 38 0 0) [] 14 1 (bytesOf 4 0) ∷
+    gives (push (minus 4) ++ rela 0 44 0 0) 2 (bytesOf 4 0x03fffc1f) ∷
+    -- type 38: 16 is 14, -17 is 18
+    refused (push 16 ++ rela 4 38 0 0) 14 1 4 ∷
+    refused (push (minus 17) ++ rela 4 38 0 0) 18 1 4 ∷
     -- type 49 on ff ff ff with S+A = 1 gives 00 00 00, the next byte kept
     record {
       section = 0xff ∷ 0xff ∷ 0xff ∷ 0xab ∷ [];
@@ -51,13 +69,14 @@ edges =
       gp = 0;
       number = 0;
       place = 1;
+      offset = 0;
       left = 0 ∷ 0 ∷ 0 ∷ 0xab ∷ [];
     } ∷
     -- -5 shifted right by 1 is -3, whose five low bits are 1dh; a count of 64 is 12
-    on (push (minus 5) ++ push 1 ++ rela 0 34 0 0 ++ rela 0 38 0 0) [] 0 4 (bytesOf 4 (0x1d * 2 ^ 10)) ∷
-    on (push (minus 5) ++ push 64 ++ rela 0 34 0 0 ++ rela 0 38 0 0) [] 12 2 (bytesOf 4 0) ∷
+    gives (push (minus 5) ++ push 1 ++ rela 0 34 0 0 ++ rela 0 38 0 0) 4 (bytesOf 4 (0x1d * 2 ^ 10)) ∷
+    refused (push (minus 5) ++ push 64 ++ rela 5 34 0 0 ++ rela 0 38 0 0) 12 2 5 ∷
     -- pushes 0, 7, 9 then 37 leave 9
-    on (push 0 ++ push 7 ++ push 9 ++ rela 0 37 0 0 ++ rela 0 38 0 0) [] 0 5 (bytesOf 4 (9 * 2 ^ 10)) ∷
+    gives (push 0 ++ push 7 ++ push 9 ++ rela 0 37 0 0 ++ rela 0 38 0 0) 5 (bytesOf 4 (9 * 2 ^ 10)) ∷
     -- type 71, S+A = 12345678h, PC = 12340004h, word 0 gives a0h
     record {
       section = bytesOf 8 0;
@@ -67,10 +86,11 @@ edges =
       gp = 0;
       number = 0;
       place = 1;
+      offset = 0;
       left = bytesOf 4 0 ++ bytesOf 4 0xa0;
     } ∷
     []
 
 pub edges-hold : T (allHold edges)
-unfolding allHold holds edges on same rela rowS push minus number bytesOf cut table look put first ofRecords ofMasks checks patched
+unfolding allHold holds edges gives refused same rela rowS push minus number bytesOf cut table look put first ofRecords ofMasks checks patched
 edges-hold = tt

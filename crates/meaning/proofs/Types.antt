@@ -19,6 +19,7 @@ pub record Line : Type 0 where
   pub records : List ℕ
   pub number : ℕ
   pub place : ℕ
+  pub offset : ℕ
   pub left : List ℕ
 
 -- each number's eight bytes
@@ -49,7 +50,7 @@ seen at pushing =
 -- ---- the kinds of lines: each ends with the two numbers that its call leaves in the section
 
 pub accepted : ℕ → List ℕ → ℕ → ℕ → Line
-accepted t records x y = record { pins = t; records = records; number = 0; place = length records / 24; left = words (x ∷ y ∷ []) }
+accepted t records x y = record { pins = t; records = records; number = 0; place = length records / 24; offset = 0; left = words (x ∷ y ∷ []) }
 
 -- a record of the type with a symbol and an addend, at 0 and at 8
 pub direct : ℕ → ℕ → ℕ → ℕ → ℕ → Line
@@ -78,7 +79,7 @@ pub idle : ℕ → ℕ → ℕ → Line
 idle t x y = accepted t (bare t) x y
 
 pub loaders : ℕ → ℕ → ℕ → Line
-loaders t x y = record { pins = t; records = bare t; number = 5; place = 0; left = words (x ∷ y ∷ []) }
+loaders t x y = record { pins = t; records = bare t; number = 5; place = 0; offset = minus 1; left = words (x ∷ y ∷ []) }
 
 -- ---- from here as `make types` prints it
 
@@ -206,6 +207,7 @@ caseOf l =
       gp = gp;
       number = l .number;
       place = l .place;
+      offset = l .offset;
       left = l .left;
     }
 

@@ -1,4 +1,4 @@
--- The refusals: every check of document 01, in its order, with its number and its place. The answer is the first that fails.
+-- The refusals: every check of document 01, in its order, with its number, its place and its offset. The answer is the first that fails.
 use Prim.Native.Nat.{ℕ, suc, _+_, _-_, _%_, _^_}
 use mathlib.Core.Bool.{Bool, true, false, cond, not, _&&_}
 use mathlib.Core.List.{List, [], _∷_, _++_}
@@ -6,34 +6,42 @@ use mathlib.Core.Option.{Option, none, some}
 use lib.Dec.{eqb, ltb, leb}
 use lib.IntN.{ℤ, pos, negsuc, negℤ, natAbs}
 use lib.ListN.{length}
-use lib.Signed.{leZ}
+use lib.Signed.{ltZ}
 use Rattle.meaning.specs.Numbers.{signed}
 use Rattle.meaning.specs.Table.{Value, Semantics, unnamed, idle, loaders, push, operation, word, bytes, Source, stack, of}
 use Rattle.meaning.specs.Table.{Operation, dup, assert, sub, sl, sr, add, and, if-else, Accepted, from_to_, signed-multiple-of-4, any}
 use Rattle.meaning.specs.Call.{Setting, Call, Record, does, recordsOf, rowBytes, rowsOf, mask, present, PC, valueOf, sumOf, formula}
 use Rattle.meaning.specs.Stack.{depth, Stack, entry, isZero, taken, after}
 
--- An answer: the number of refusal, 0 for none, and its place.
+-- An answer: the number of refusal, 0 for none, its place, and an offset: 4 to 15 and 18 give the record's offset field, the others 0.
 pub record Answer : Type 0 where
   pub number : ℕ
   pub place : ℕ
+  pub offset : ℕ
 
--- A check: the number and place of its refusal, and whether it fails.
+-- A check: the answer that refuses, and whether it fails.
 pub record Check : Type 0 where
-  pub number : ℕ
-  pub place : ℕ
+  pub refusal : Answer
   pub fails : Bool
 
+-- An answer with an offset, and one of no record.
+abbrev pub answerAt : ℕ → ℕ → ℕ → Answer
+answerAt n p o = record { number = n; place = p; offset = o }
+
 abbrev pub answer : ℕ → ℕ → Answer
-answer n p = record { number = n; place = p }
+answer n p = answerAt n p 0
 
 abbrev pub check : ℕ → ℕ → Bool → Check
-check n p f = record { number = n; place = p; fails = f }
+check n p f = record { refusal = answer n p; fails = f }
+
+-- A check of record r: its answer has the record's offset.
+abbrev pub checkOf : Record → ℕ → ℕ → Bool → Check
+checkOf r n p f = record { refusal = answerAt n p (r .offset); fails = f }
 
 -- The answer of a list of checks: that of the first that fails, or the one given where none does.
 unfoldable pub first : List Check → Answer → Answer
 first [] passed = passed
-first (k ∷ ks) passed = cond (k .fails) (answer (k .number) (k .place)) (first ks passed)
+first (k ∷ ks) passed = cond (k .fails) (k .refusal) (first ks passed)
 
 -- ---- what the checks of a call ask
 
@@ -92,7 +100,7 @@ writes (bytes way n f) = n
 abbrev pub outside : ℕ → ℕ → ℕ → Bool
 outside size offset n = not (eqb n 0) && ltb size (offset + n)
 
--- 9, 14, 15: what a test says of a word type's source and range; any other type passes
+-- 9, 14, 18, 15: what a test says of a word type's source and range; any other type passes
 abbrev pub ofWord : Semantics → (Source → Accepted → Bool) → Bool
 ofWord unnamed test = false
 ofWord idle test = false
@@ -130,19 +138,21 @@ ofOperation c (operation o) st = refuses (c .card .width) o (entry st 0)
 ofOperation c (word source parts range) st = 0
 ofOperation c (bytes way n f) st = 0
 
--- 14, 15: a word's value is the entry on top, or a formula's value read as a signed number.
+-- 14, 18, 15: a word's value is the entry on top, or a formula's value read as a signed number.
 abbrev pub wordValue : Setting → Record → Stack → Source → ℤ
 wordValue c r st stack = entry st 0
 wordValue c r st (of f) = signed (c .card .width) (formula c r f)
 
-abbrev pub between : ℤ → ℤ → ℤ → Bool
-between l h z = leZ l z && leZ z h
+-- 14 and 18: it is above its range, or below it. An n-bit signed range is -2^(n-1) to 2^(n-1)-1.
+abbrev pub above : Accepted → ℤ → Bool
+above (from l to h) z = ltZ h z
+above (signed-multiple-of-4 n) z = ltZ (pos (2 ^ (n - 1) - 1)) z
+above any z = false
 
--- An n-bit signed range is -2^(n-1) to 2^(n-1)-1.
-abbrev pub beyond : Accepted → ℤ → Bool
-beyond (from l to h) z = not (between l h z)
-beyond (signed-multiple-of-4 n) z = not (between (negℤ (pos (2 ^ (n - 1)))) (pos (2 ^ (n - 1) - 1)) z)
-beyond any z = false
+abbrev pub below : Accepted → ℤ → Bool
+below (from l to h) z = ltZ z l
+below (signed-multiple-of-4 n) z = ltZ z (negℤ (pos (2 ^ (n - 1))))
+below any z = false
 
 abbrev pub notMultiple : Accepted → ℤ → Bool
 notMultiple (from l to h) z = false
@@ -151,21 +161,22 @@ notMultiple any z = false
 
 -- ---- the checks of a record, of all the records from one on, and of the call
 
--- 4 to 15, at record i, with the stack before it
+-- 4 to 15, at record i, with the stack before it; 18 is in 14's place
 abbrev pub ofRecord : Setting → ℕ → Record → Semantics → Stack → List Check
 ofRecord c i r does st =
-    check 4 i (eqb (refused does) 4) ∷
-    check 5 i (eqb (refused does) 5) ∷
-    check 6 i (past c r (uses does)) ∷
-    check 7 i (absent r (uses does)) ∷
-    check 8 i (outside (c .size) (r .offset) (writes does)) ∷
-    check 9 i (ofWord does (λ source range. unaligned (PC c r))) ∷
-    check 10 i (ltb (length st) (taken does)) ∷
-    check 11 i (ltb depth (length (after c r does st))) ∷
-    check 12 i (eqb (ofOperation c does st) 12) ∷
-    check 13 i (eqb (ofOperation c does st) 13) ∷
-    check 14 i (ofWord does (λ source range. beyond range (wordValue c r st source))) ∷
-    check 15 i (ofWord does (λ source range. notMultiple range (wordValue c r st source))) ∷
+    checkOf r 4 i (eqb (refused does) 4) ∷
+    checkOf r 5 i (eqb (refused does) 5) ∷
+    checkOf r 6 i (past c r (uses does)) ∷
+    checkOf r 7 i (absent r (uses does)) ∷
+    checkOf r 8 i (outside (c .size) (r .offset) (writes does)) ∷
+    checkOf r 9 i (ofWord does (λ source range. unaligned (PC c r))) ∷
+    checkOf r 10 i (ltb (length st) (taken does)) ∷
+    checkOf r 11 i (ltb depth (length (after c r does st))) ∷
+    checkOf r 12 i (eqb (ofOperation c does st) 12) ∷
+    checkOf r 13 i (eqb (ofOperation c does st) 13) ∷
+    checkOf r 14 i (ofWord does (λ source range. above range (wordValue c r st source))) ∷
+    checkOf r 18 i (ofWord does (λ source range. below range (wordValue c r st source))) ∷
+    checkOf r 15 i (ofWord does (λ source range. notMultiple range (wordValue c r st source))) ∷
     []
 
 -- The records from number i on, with the stack before them, each in the order 4 to 15; then 16, entries left, whose place is the

@@ -146,12 +146,12 @@ frames02 (piece ∷ pieces) = digits 2 2 ++ (digitsOf piece ++ (line-feed ++ fra
 unfoldable pub sectionLines : List ℕ → List ℕ
 sectionLines section = frames02 (cut 64 ((length section + 63) / 64) section)
 
--- `00` and the place as 8 digits, then the section; or `ff`, two digits of refusal, 8 of place.
+-- `00`, 8 digits of place and 16 of offset, then the section; or `ff`, two digits of refusal, 8 of place and 16 of offset.
 unfoldable pub written : Answer → List ℕ → List ℕ
 written a section =
     cond (eqb (a .number) 0)
-    (digits 2 0 ++ (digits 8 (a .place) ++ (line-feed ++ sectionLines section)))
-    (digits 2 255 ++ (digits 2 (a .number) ++ (digits 8 (a .place) ++ line-feed)))
+    (digits 2 0 ++ (digits 8 (a .place) ++ (digits 16 (a .offset) ++ (line-feed ++ sectionLines section))))
+    (digits 2 255 ++ (digits 2 (a .number) ++ (digits 8 (a .place) ++ (digits 16 (a .offset) ++ line-feed))))
 
 -- The answer to what was read is its refusal, or that of the patch.
 abbrev pub callOf : Input → Call

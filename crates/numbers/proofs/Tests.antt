@@ -12,7 +12,7 @@ use mir.Syntax.{w64}
 use mir.Val.{Fits, SFits, ofZ, toZ}
 use mir.ValLaws.{half-full, toZ-pos, toZ-ofZ}
 use Rattle.meaning.specs.Numbers.{signed, bitsOf}
-use Rattle.meaning.specs.Checks.{between}
+use Rattle.numbers.specs.Ranges.{between}
 
 -- two tests are equal if each passes where the other does
 agree : (a b : Bool) → (a ≡ true → b ≡ true) → (b ≡ true → a ≡ true) → a ≡ b

@@ -8,7 +8,7 @@ ghost use lib.IntN.{pos, negℤ, natAbs};
 ghost use lib.Signed.{shrZ};
 ghost use Rattle.meaning.specs.Numbers as N;
 ghost use Rattle.meaning.specs.Checks as C;
-ghost use Rattle.meaning.specs.Checks.{between};
+ghost use Rattle.numbers.specs.Ranges.{between};
 
 // The least number whose top bit is set: from here up the bits stand for numbers below 0.
 const TOP: u64 = 1 << 63;

@@ -31,16 +31,22 @@ row56 = line 114 0x0301000000000000001010000000000000000000000000000000000000000
 pub row57 : List ℕ
 row57 = line 116 0x03010000000000000010100000000000000000000000000000000000000000000000000000000000000000000000000000000000000000000000
 
--- "0000000001", "0200100050"
+-- "00", "00000001", "0000000000000000"; "0200100050"
 pub patched-word : List ℕ
 patched-word =
-    48 ∷ 48 ∷ 48 ∷ 48 ∷ 48 ∷ 48 ∷ 48 ∷ 48 ∷ 48 ∷ 49 ∷ 10 ∷
+    48 ∷ 48 ∷
+    48 ∷ 48 ∷ 48 ∷ 48 ∷ 48 ∷ 48 ∷ 48 ∷ 49 ∷
+    48 ∷ 48 ∷ 48 ∷ 48 ∷ 48 ∷ 48 ∷ 48 ∷ 48 ∷ 48 ∷ 48 ∷ 48 ∷ 48 ∷ 48 ∷ 48 ∷ 48 ∷ 48 ∷ 10 ∷
     48 ∷ 50 ∷ 48 ∷ 48 ∷ 49 ∷ 48 ∷ 48 ∷ 48 ∷ 53 ∷ 48 ∷ 10 ∷
     []
 
--- "ff1100000002": refusal 17 at line 2
+-- "ff11", "00000002", "0000000000000000": refusal 17 at line 2
 pub bad-line-2 : List ℕ
-bad-line-2 = 102 ∷ 102 ∷ 49 ∷ 49 ∷ 48 ∷ 48 ∷ 48 ∷ 48 ∷ 48 ∷ 48 ∷ 48 ∷ 50 ∷ 10 ∷ []
+bad-line-2 =
+    102 ∷ 102 ∷ 49 ∷ 49 ∷
+    48 ∷ 48 ∷ 48 ∷ 48 ∷ 48 ∷ 48 ∷ 48 ∷ 50 ∷
+    48 ∷ 48 ∷ 48 ∷ 48 ∷ 48 ∷ 48 ∷ 48 ∷ 48 ∷ 48 ∷ 48 ∷ 48 ∷ 48 ∷ 48 ∷ 48 ∷ 48 ∷ 48 ∷ 10 ∷
+    []
 
 pub frames-hold : T (same (outputOf (around row56)) patched-word && same (outputOf (around row57)) bad-line-2)
 unfolding same line around row56 row57 patched-word bad-line-2 number bytesOf cut table look put first ofRecords ofMasks checks patched linesOf digit allDigits numeral bytesIn sized follows wellFormed ofLine reading outputFor digitFor digits digitsOf frames02 sectionLines written

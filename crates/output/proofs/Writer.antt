@@ -5,17 +5,17 @@ use native.Mathlib.Numerals.{add-one}
 use native.Mathlib.Omega.{arith}
 use mathlib.Core.Bool.{Bool, true, false}
 use mathlib.Core.List.{List, [], _∷_, _++_, append-assoc}
-use mathlib.Core.Path.{_≡_, refl, sym, ap, _∙_}
+use mathlib.Core.Path.{_≡_, refl, sym, ap, ap₂, _∙_}
 use borrow.Author.Tests.{eqb-true, eqb-false, ne-eqb}
 use lib.Dec.{eqb}
 use lib.ListN.{length, take, drop, getD, set, length-append, length-drop, take-append-drop, drop-of-length-le}
 use lib.Pow.{pow-add}
 use lib.Seq.{drop-cons, drop-drop, take-all}
 use Rattle.meaning.specs.Numbers.{cut}
-use Rattle.meaning.specs.Checks.{answer, sectionLimit}
+use Rattle.meaning.specs.Checks.{answerAt, sectionLimit}
 use Rattle.meaning.specs.Frames.{digitFor, digits, digitsOf, line-feed, frames02, sectionLines, written}
 use Rattle.frames.specs.Text.{laid}
-use Rattle.output.specs.Text.{frame02, outputBytes}
+use Rattle.output.specs.Text.{frame02, placeLine, outputBytes}
 use Rattle.frames.proofs.Laws.{laid-none, laid-cons, laid-append, length-laid}
 
 -- ---- one write after another
@@ -89,28 +89,28 @@ length-frame02 bs =
     ∙ ap (λ (n : ℕ). 2 + n) (length-append (digitsOf bs) line-feed)
     ∙ omega arith
 
-module _ (at end : ℕ) (bs s one two : List ℕ) (fits : at + (2 * length bs + 3) ≤ length s)
-    (e₁ : one ≡ laid at (digits 2 2) s) (e₂ : two ≡ laid (at + 2) (digitsOf bs) one) (e : end ≡ at + (2 * length bs + 2)) where
-  n₁ : length (digits 2 2) ≡ 2
-  n₁ = length-digits 2 2
+pub length-placeLine : (place offset : ℕ) → length (placeLine place offset) ≡ 25
+length-placeLine place offset =
+    length-append (digits 8 place) (digits 16 offset ++ line-feed)
+    ∙ ap₂ _+_ (length-digits 8 place) (length-append (digits 16 offset) line-feed ∙ ap (λ (n : ℕ). n + 1) (length-digits 16 offset))
 
-  n₂ : length (digitsOf bs) ≡ 2 * length bs
-  n₂ = length-digitsOf bs
+-- two pieces of text, one after the other, and a line feed
+module _ (at end n m : ℕ) (v w s one two : List ℕ) (n₁ : length v ≡ n) (n₂ : length w ≡ m) (fits : at + (n + m + 1) ≤ length s)
+    (e₁ : one ≡ laid at v s) (e₂ : two ≡ laid (at + n) w one) (e : end ≡ at + (n + m)) where
+  both-laid : two ≡ laid at (v ++ w) s
+  both-laid = e₂ ∙ laid-then at (at + n) v w s e₁ (ap (λ (k : ℕ). at + k) (sym n₁)) (omega (arith, n₁))
 
-  both-laid : two ≡ laid at (digits 2 2 ++ digitsOf bs) s
-  both-laid = e₂ ∙ laid-then at (at + 2) (digits 2 2) (digitsOf bs) s e₁ (ap (λ (n : ℕ). at + n) (sym n₁)) (omega (arith, n₁))
-
-  n₃ : length (digits 2 2 ++ digitsOf bs) ≡ 2 * length bs + 2
-  n₃ = length-append (digits 2 2) (digitsOf bs) ∙ omega (arith, n₁, n₂)
+  n₃ : length (v ++ w) ≡ n + m
+  n₃ = length-append v w ∙ omega (arith, n₁, n₂)
 
   pub line-whole : length two ≡ length s
-  line-whole = ap length both-laid ∙ length-laid at s (digits 2 2 ++ digitsOf bs) (omega (arith, n₃))
+  line-whole = ap length both-laid ∙ length-laid at s (v ++ w) (omega (arith, n₃))
 
-  pub line-put : set two end 10 ≡ laid at (frame02 bs) s
+  pub line-put : set two end 10 ≡ laid at (v ++ (w ++ line-feed)) s
   line-put =
       laid-one end 10 two (omega (arith, line-whole))
-      ∙ laid-then at end (digits 2 2 ++ digitsOf bs) line-feed s both-laid (e ∙ ap (λ (n : ℕ). at + n) (sym n₃)) (omega (arith, n₃))
-      ∙ ap (λ (w : List ℕ). laid at w s) (append-assoc (digits 2 2) (digitsOf bs) line-feed)
+      ∙ laid-then at end (v ++ w) line-feed s both-laid (e ∙ ap (λ (k : ℕ). at + k) (sym n₃)) (omega (arith, n₃))
+      ∙ ap (λ (l : List ℕ). laid at l s) (append-assoc v w line-feed)
 
 frames02-cons : (p : List ℕ) (ps : List (List ℕ)) → frames02 (p ∷ ps) ≡ frame02 p ++ frames02 ps
 unfolding frames02
@@ -180,7 +180,7 @@ lines-fit (suc m) s h =
     length-append (frame02 (take 64 s)) (frames02 (cut 64 m (drop 64 s))) in
     ap length (frames02-cons (take 64 s) (cut 64 m (drop 64 s))) ∙ all ∙ omega arith
 
-pub section-fits : (s : List ℕ) → length s ≤ sectionLimit → 11 + length (sectionLines s) ≤ outputBytes
+pub section-fits : (s : List ℕ) → length s ≤ sectionLimit → 27 + length (sectionLines s) ≤ outputBytes
 unfolding sectionLines
 section-fits s h = rw (lines-fit ((length s + 63) / 64) s (omega arith)) (omega arith)
 
@@ -203,20 +203,17 @@ module _ {w came is : List ℕ} {n : ℕ} (f : Front w came is n) where
       let sum : length (w ++ v) ≡ n + m = length-append w v ∙ omega arith in
       record { laid-over = all; long = sum; whole = ap length all ∙ length-laid 0 came (w ++ v) (omega arith) }
 
-  pub front-feed : n + 1 ≤ length came → Front (w ++ line-feed) came (set is n 10) (n + 1)
-  front-feed fits = let l = f .whole in front-more line-feed 1 refl fits (laid-one n 10 is (omega arith))
-
   -- where that is all of the output
   pub front-all : (v : List ℕ) → w ≡ v → (is ≡ v ++ drop n came) × (n ≡ length v)
   front-all v e =
       (f .laid-over ∙ laid-front w came ∙ ap (λ (m : ℕ). w ++ drop m came) (f .long) ∙ ap (λ (x : List ℕ). x ++ drop n came) e, sym (f .long) ∙ ap length e)
 
-pub accepted-is : (place : ℕ) (section : List ℕ) →
-    ((([] ++ digits 2 0) ++ digits 8 place) ++ line-feed) ++ sectionLines section ≡ written (answer 0 place) section
+pub accepted-is : (place offset : ℕ) (section : List ℕ) →
+    (([] ++ digits 2 0) ++ placeLine place offset) ++ sectionLines section ≡ written (answerAt 0 place offset) section
 unfolding written
-accepted-is place section = simp append-assoc
+accepted-is place offset section = simp append-assoc
 
-pub refused-is : (number place : ℕ) (section : List ℕ) → (number ≡ 0 → ⊥) →
-    ((([] ++ digits 2 255) ++ digits 2 number) ++ digits 8 place) ++ line-feed ≡ written (answer number place) section
+pub refused-is : (number place offset : ℕ) (section : List ℕ) → (number ≡ 0 → ⊥) →
+    (([] ++ digits 2 255) ++ digits 2 number) ++ placeLine place offset ≡ written (answerAt number place offset) section
 unfolding written
-refused-is number place section h = simp (ne-eqb number 0 h, append-assoc)
+refused-is number place offset section h = simp (ne-eqb number 0 h, append-assoc)

@@ -3,22 +3,22 @@ ghost use mathlib.Core.List.{_++_};
 ghost use mathlib.Core.Path.{_≡_};
 ghost use Prim.Native.Nat.{_+_, _*_, _≤_, _<_};
 ghost use lib.ListN.{length, drop};
-ghost use Rattle.meaning.specs.Checks.{answer, sectionLimit};
+ghost use Rattle.meaning.specs.Checks.{answerAt, sectionLimit};
 ghost use Rattle.meaning.specs.Frames as F;
 ghost use Rattle.frames.specs.Text.{laid};
-ghost use Rattle.output.specs.Text.{frame02, outputBytes};
+ghost use Rattle.output.specs.Text.{frame02, placeLine, outputBytes};
 
-// The longest output: a first line of 11 bytes, and a full section's 1,024 lines of 131.
-pub const OUTPUT: usize = 134155;
+// The longest output: a first line of 27 bytes, and a full section's 1,024 lines of 131.
+pub const OUTPUT: usize = 134171;
 
-fn wide(x: u8) -> u32
+fn wide(x: u8) -> u64
     ensures { λ r. ⌜ r ≡ x ⌝ }
 {
-    x as u32
+    x as u64
 }
 
 // The digit for a number below 16. Lower case is written.
-fn digit_for(d: u32) -> u8
+fn digit_for(d: u64) -> u8
     requires { ⌜ d < 16 ⌝ }
     ensures { λ r. ⌜ r ≡ F.digitFor d ⌝ }
 {
@@ -29,8 +29,8 @@ fn digit_for(d: u32) -> u8
 }
 
 // Writes the low n digits of x at `at`, the highest first.
-fn put_digits(out: &mut [u8], at: usize, n: usize, x: u32)
-    requires { ⌜ (n ≤ 8) × (at + n ≤ length (now out)) ⌝ }
+fn put_digits(out: &mut [u8], at: usize, n: usize, x: u64)
+    requires { ⌜ (n ≤ 16) × (at + n ≤ length (now out)) ⌝ }
     ensures { λ _. ⌜ now (out .exit) ≡ laid at (F.digits n x) (now (out .entry)) ⌝ }
 {
     let mut to = at;
@@ -97,22 +97,32 @@ fn put_section(out: &mut [u8], at: usize, section: &[u8]) -> usize
     to
 }
 
+// Writes a place, an offset and the line's end, and answers the place after them.
+fn put_place(out: &mut [u8], at: usize, place: u32, offset: u64) -> usize
+    requires { ⌜ at + 25 ≤ length (now out) ⌝ }
+    ensures { λ _. ⌜ now (out .exit) ≡ laid at (placeLine place offset) (now (out .entry)) ⌝ }
+    ensures { λ r. ⌜ r ≡ at + 25 ⌝ }
+{
+    put_digits(out, at, 8, place as u64);
+    put_digits(out, at + 8, 16, offset);
+    let end = at + 24;
+    out[end] = 10;
+    end + 1
+}
+
 // Writes the program's output for an answer and a section into the front of `out`, and answers how long it is.
-pub fn write(section: &[u8], number: u32, place: u32, out: &mut [u8]) -> usize
+pub fn write(section: &[u8], number: u32, place: u32, offset: u64, out: &mut [u8]) -> usize
     requires { ⌜ length (now section) ≤ sectionLimit ⌝ }
     requires { ⌜ length (now out) ≡ outputBytes ⌝ }
-    ensures { λ r. ⌜ now (out .exit) ≡ F.written (answer number place) (now (section .entry)) ++ drop r (now (out .entry)) ⌝ }
-    ensures { λ r. ⌜ r ≡ length (F.written (answer number place) (now (section .entry))) ⌝ }
+    ensures { λ r. ⌜ now (out .exit) ≡ F.written (answerAt number place offset) (now (section .entry)) ++ drop r (now (out .entry)) ⌝ }
+    ensures { λ r. ⌜ r ≡ length (F.written (answerAt number place offset) (now (section .entry))) ⌝ }
 {
     if number == 0 {
         put_digits(out, 0, 2, 0);
-        put_digits(out, 2, 8, place);
-        out[10] = 10;
-        return put_section(out, 11, section);
+        let end = put_place(out, 2, place, offset);
+        return put_section(out, end, section);
     }
     put_digits(out, 0, 2, 255);
-    put_digits(out, 2, 2, number);
-    put_digits(out, 4, 8, place);
-    out[12] = 10;
-    13
+    put_digits(out, 2, 2, number as u64);
+    put_place(out, 4, place, offset)
 }

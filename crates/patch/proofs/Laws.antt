@@ -12,43 +12,45 @@ use lib.ListN.{length}
 use Rattle.meaning.specs.Table.{Semantics}
 use Rattle.meaning.specs.Call.{Call, Setting, Record, card64, rowBytes, rowsOf, rowOf, symbolIn, does, recordWith, recordOf, recordsOf}
 use Rattle.meaning.specs.Stack.{depth, after}
-use Rattle.meaning.specs.Checks.{Answer, answer, first, ofRecord, ofRecords}
+use Rattle.meaning.specs.Checks.{Answer, answer, answerAt, first, ofRecord, ofRecords}
 use Rattle.meaning.specs.Patch.{effect, patched}
 use Rattle.lemmas.specs.First.{first-append}
-use Rattle.lemmas.specs.Passed.{refusalOf}
-use Rattle.lemmas.specs.Pieces.{piece, piecesFrom, from-start, from-next, from-end, length-records, length-piece}
+use Rattle.lemmas.specs.Passed.{refusalOf, first-record}
+use Rattle.lemmas.specs.Pieces.{piece, piecesFrom, from-start, from-next, from-end, length-records}
 use Rattle.stack.specs.Tops.{tops, Fit, Holds}
 use Rattle.stack.specs.Laws.{tops-none, length-tops}
 use Rattle.values.proofs.Laws.{row-whole, row-none}
 use Rattle.records.specs.declared.Setting as R
 use Rattle.records.specs.Given.{seen}
 use Rattle.steps.specs.Step.{Ready}
-use Rattle.steps.specs.Refusal.{first-record}
-use Rattle.patch.specs.Answers.{recordsAnswer}
+use Rattle.patch.specs.declared.Answer as D
+use Rattle.patch.specs.declared.Answer.the-variants.{Refused}
+use Rattle.patch.specs.Answers.{Answers, recordsAnswer}
 
 -- ---- a turn's record and its row
-
-pub record-whole : (records rela : List ℕ) (i : ℕ) → i < length records / card64 .recordBytes → rela ≡ piece (card64 .recordBytes) records i → length rela ≡ card64 .recordBytes
-record-whole records rela i h e = ap length e ∙ length-piece (card64 .recordBytes) records i (omega arith)
 
 -- What the code holds in a turn: the bytes of record i, and its row.
 pub record Turn (setting : R.Setting) (records values rela row : List ℕ) (i : ℕ) : Type 0 where
   pub is : seen rela row ≡ recordOf card64 values (piece (card64 .recordBytes) records i)
   pub ready : Ready setting rela row
 
-pub turn : (setting : R.Setting) (records values rela row : List ℕ) (i symbol : ℕ) → setting .rows ≡ length values / rowBytes → i < length records / card64 .recordBytes →
-    rela ≡ piece (card64 .recordBytes) records i → symbol ≡ symbolIn card64 rela → row ≡ rowOf (rowsOf values) symbol → Turn setting records values rela row i
-turn setting records values rela row i symbol rows h e f g =
+pub turn : (setting : R.Setting) (records values rela row : List ℕ) (i symbol : ℕ) → setting .rows ≡ length values / rowBytes →
+    (rela ≡ piece (card64 .recordBytes) records i) × (length rela ≡ card64 .recordBytes) → symbol ≡ symbolIn card64 rela → row ≡ rowOf (rowsOf values) symbol → Turn setting records values rela row i
+turn setting records values rela row i symbol rows (e, whole) f g =
     let its : row ≡ rowOf (rowsOf values) (symbolIn card64 rela) = g ∙ ap (rowOf (rowsOf values)) f in
     record {
       is = ap (recordWith card64 rela) its ∙ ap (recordOf card64 values) e;
       ready =
           record {
-            whole = record-whole records rela i h e;
+            whole = whole;
             whole-row = ap length its ∙ row-whole values (symbolIn card64 rela);
             nothing = λ past. its ∙ row-none values (symbolIn card64 rela) (subst (λ (n : ℕ). n < symbolIn card64 rela) rows past);
           };
     }
+
+-- a refusal by its three numbers
+pub refused-so : (n i o : ℕ) {r : D.Answer} {a : Answer} → r ≡ Refused n i o → answerAt n i o ≡ a → (n ≡ 0 → ⊥) → Answers r a
+refused-so n i o {r} {a} e says some = subst⁻¹ (λ (q : D.Answer). Answers q a) e (record { says = says; proper = some })
 
 -- ---- the records
 
@@ -109,7 +111,7 @@ module _ (c : Call) (records : List ℕ) where
 
     module _ (going : Going entries h i) where
       -- the answer of all, by this record's refusal
-      here : cond (eqb refusal 0) (first (ofRecords (c .setting) (suc i) next (restOf (suc i))) accepted) (answer refusal i) ≡ recordsAnswer c records
+      here : cond (eqb refusal 0) (first (ofRecords (c .setting) (suc i) next (restOf (suc i))) accepted) (answerAt refusal i (recordAt i .offset)) ≡ recordsAnswer c records
       unfolding ofRecords
       here =
           sym (first-record (c .setting) i (recordAt i) (doing i) (tops entries h) (first (ofRecords (c .setting) (suc i) next (restOf (suc i))) accepted))
@@ -117,8 +119,8 @@ module _ (c : Call) (records : List ℕ) where
           ∙ ap (λ (x : List Record). first (ofRecords (c .setting) i (tops entries h) x) accepted) (sym one-more)
           ∙ going .answers
 
-      pub stops-here : (n : ℕ) → n ≡ refusal → (n ≡ 0 → ⊥) → answer n i ≡ recordsAnswer c records
-      stops-here n e z = ap (λ (m : ℕ). answer m i) e ∙ (rw (ne-eqb refusal 0 (λ q. z (e ∙ q))) at here)
+      pub stops-here : (n : ℕ) → n ≡ refusal → (n ≡ 0 → ⊥) → answerAt n i (recordAt i .offset) ≡ recordsAnswer c records
+      stops-here n e z = ap (λ (m : ℕ). answerAt m i (recordAt i .offset)) e ∙ (rw (ne-eqb refusal 0 (λ q. z (e ∙ q))) at here)
 
       -- where no record is refused, this one is not
       pub passes-here : recordsAnswer c records .number ≡ 0 → refusal ≡ 0

@@ -19,15 +19,15 @@ use Rattle.patch.specs.Answers.{answerIn, refuses, Proper, Answers, Patc
 
 some : (r : Answer) → Proper r → refuses r ≡ true → answerIn r .number ≡ 0 → ⊥
 some (Patched n) p e = absurd (false≢true e)
-some (Refused n q) p e = p
+some (Refused n q o) p e = p
 
 none : (r : Answer) → refuses r ≡ false → answerIn r .number ≡ 0
 none (Patched n) e = refl
-none (Refused n q) e = absurd (false≢true (sym e))
+none (Refused n q o) e = absurd (false≢true (sym e))
 
 stopped : (ks : List Check) (r : Answer) → Answers r (first ks (answer 0 0)) → refuses r ≡ true → (rest : C.Answer) → answerIn r ≡ first ks rest
 stopped ks r a e rest =
-    sym (first-stops ks (answer 0 0) rest (answerIn r .number) (answerIn r .place) refl (some r (a .proper) e) (a .says))
+    sym (first-stops ks (answer 0 0) rest (answerIn r) refl (some r (a .proper) e) (a .says))
 
 passes : (ks : List Check) (r : Answer) (z : C.Answer) → Every Numbered ks → Answers r (first ks z) → refuses r ≡ false → Every Passes ks
 passes ks r z k a e = zero-passes ks z k (ap (λ (x : C.Answer). x .number) (sym (a .says)) ∙ none r e)

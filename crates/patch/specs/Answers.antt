@@ -7,25 +7,25 @@ use lib.Dec.{eqb, ltb}
 use lib.ListN.{length}
 use Rattle.meaning.specs.Call.{Call, card64, rowBytes, recordsOf}
 use Rattle.meaning.specs.Checks as C
-use Rattle.meaning.specs.Checks.{answer, check, first, ofRecords, sectionLimit, valuesLimit}
+use Rattle.meaning.specs.Checks.{answer, answerAt, check, first, ofRecords, sectionLimit, valuesLimit}
 use Rattle.meaning.specs.Patch.{call, answerOf, sectionOf}
 use Rattle.patch.specs.declared.Answer.{Answer}
 use Rattle.patch.specs.declared.Answer.the-variants.{Patched, Refused}
 
--- Patched: refusal 0, and the place is the number of records. Refused: the number and its place.
+-- Patched: refusal 0, the place is the number of records, and the offset 0. Refused: the number, its place and its offset.
 abbrev pub answerIn : Answer → C.Answer
 answerIn (Patched n) = answer 0 n
-answerIn (Refused n p) = answer n p
+answerIn (Refused n p o) = answerAt n p o
 
 -- Whether an answer refuses.
 abbrev pub refuses : Answer → Bool
 refuses (Patched n) = false
-refuses (Refused n p) = true
+refuses (Refused n p o) = true
 
 -- A refusal has a number.
 abbrev pub Proper : Answer → Type 0
 Proper (Patched n) = Unit {0}
-Proper (Refused n p) = n ≡ 0 → ⊥
+Proper (Refused n p o) = n ≡ 0 → ⊥
 
 -- The code's answer is the one by document 01's numbers.
 pub record Answers (r : Answer) (a : C.Answer) : Type 0 where

@@ -10,18 +10,20 @@ ghost use mathlib.Core.List.{[]};
 ghost use Prim.Native.Nat.{_/_, _≤_, _<_};
 ghost use lib.ListN.{length};
 ghost use Rattle.meaning.specs.Call as M;
-ghost use Rattle.meaning.specs.Call.{card64, rowBytes, rowsOf};
+ghost use Rattle.meaning.specs.Call.{card64, rowBytes, rowsOf, offsetIn};
 ghost use Rattle.meaning.specs.Checks as C;
 ghost use Rattle.meaning.specs.Patch as P;
 ghost use Rattle.lemmas.specs.Pieces.{piece};
 ghost use Rattle.values.specs.Values.{fixedRows};
 ghost use Rattle.records.specs.Given.{asSetting, given};
+ghost use Rattle.patch.specs.declared.Answer.the-variants.{Refused};
 ghost use Rattle.patch.specs.Answers.{refuses, Answers, Patches, limitChecks, recordsAnswer};
 
-// Patched, with the number of records, or a number of refusal and its place.
+// Patched, with the number of records, or a number of refusal, its place and its offset: the refused record's, and 0 where no record is
+// refused.
 pub enum Answer {
     Patched(u32),
-    Refused(u32, u32),
+    Refused(u32, u32, u64),
 }
 
 impl Answer {
@@ -30,7 +32,7 @@ impl Answer {
     {
         match self {
             Answer::Patched(_) => false,
-            Answer::Refused(_, _) => true,
+            Answer::Refused(_, _, _) => true,
         }
     }
 }
@@ -40,19 +42,19 @@ fn limits(section: usize, records: usize, values: usize) -> Answer
     ensures { λ r. ⌜ Answers r (C.first (limitChecks section records values) (C.answer 0 0)) ⌝ }
 {
     if section > SECTION_LIMIT {
-        return Answer::Refused(1, 0);
+        return Answer::Refused(1, 0, 0);
     }
     if records > RECORDS_LIMIT {
-        return Answer::Refused(1, 1);
+        return Answer::Refused(1, 1, 0);
     }
     if values > VALUES_LIMIT {
-        return Answer::Refused(1, 2);
+        return Answer::Refused(1, 2, 0);
     }
     if records % RECORD != 0 {
-        return Answer::Refused(2, 1);
+        return Answer::Refused(2, 1, 0);
     }
     if values % ROW != 0 {
-        return Answer::Refused(2, 2);
+        return Answer::Refused(2, 2, 0);
     }
     Answer::Patched(0)
 }
@@ -65,17 +67,27 @@ fn masks(values: &[u8]) -> Answer
     let Masks::Above(row) = values::check_masks(values) else {
         return Answer::Patched(0);
     };
-    Answer::Refused(3, row)
+    Answer::Refused(3, row, 0)
 }
 
 // Record i of the list: its part of the bytes.
 fn record_at(records: &[u8], i: usize) -> &[u8]
     requires { ⌜ (i < length (now records) / card64 .recordBytes) × (length (now records) ≤ card64 .recordsLimit) ⌝ }
-    ensures { λ r. ⌜ now r ≡ piece (card64 .recordBytes) (now (records .entry)) i ⌝ }
+    ensures { λ r. ⌜ (now r ≡ piece (card64 .recordBytes) (now (records .entry)) i) × (length (now r) ≡ card64 .recordBytes) ⌝ }
 {
     let at = RECORD * i;
     let end = at + RECORD;
     &records[at..end]
+}
+
+// A refusal of record i, with the offset that the record has.
+fn refused_at(number: u32, records: &[u8], i: usize) -> Answer
+    requires { ⌜ (i < length (now records) / card64 .recordBytes) × (length (now records) ≤ card64 .recordsLimit) ⌝ }
+    ensures { λ r. ⌜ r ≡ Refused number i (offsetIn card64 (piece (card64 .recordBytes) (now (records .entry)) i)) ⌝ }
+{
+    let place = i as u32;
+    let offset = records::offset(record_at(records, i));
+    Answer::Refused(number, place, offset)
 }
 
 // The whole list, each record with its symbol's row and the stack that the earlier ones left: the first refusal, or 16 where entries are
@@ -94,7 +106,7 @@ fn judge<'a>(records: &[u8], values: &'a [u8], fixed: &'a [u8; FIXED], setting: 
         let judged = steps::step(rela, row, setting, &mut entries, stack);
         match judged {
             Judged::Refused(number) => {
-                return Answer::Refused(number, i as u32);
+                return refused_at(number, records, i);
             }
             Judged::Passes(after) => {
                 stack = after;
@@ -103,7 +115,7 @@ fn judge<'a>(records: &[u8], values: &'a [u8], fixed: &'a [u8; FIXED], setting: 
         i += 1;
     }
     if stack.height != 0 {
-        return Answer::Refused(16, count as u32);
+        return Answer::Refused(16, count as u32, 0);
     }
     Answer::Patched(count as u32)
 }

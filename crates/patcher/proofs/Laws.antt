@@ -6,7 +6,7 @@ use borrow.Author.Tests.{ne-eqb}
 use native.Mathlib.Omega.{arith}
 use lib.ListN.{length, take, drop, length-append}
 use lib.Seq.{length-take-le}
-use Rattle.meaning.specs.Checks.{Answer, answer}
+use Rattle.meaning.specs.Checks.{Answer, answer, answerAt}
 use Rattle.meaning.specs.Frames.{written, readingOf, outputFor, outputOf}
 use Rattle.frames.specs.declared.Gathered.{Gathered}
 use Rattle.frames.specs.Gathered.{readingIn, Filled}
@@ -17,10 +17,10 @@ use Rattle.patcher.specs.declared.Input.the-variants.{Bytes}
 use Rattle.patcher.specs.Read.{Within}
 use Rattle.patcher.specs.Output.{Output, outputPatched}
 
--- what was written for a number, a place and a section is the output of the answer that they make
-pub wrote : (n p r : ℕ) (a : Answer) (s t came is : List ℕ) → n ≡ a .number → p ≡ a .place → s ≡ t →
-    is ≡ written (answer n p) s ++ drop r came → r ≡ length (written (answer n p) s) → Output r (written a t) came is
-wrote n p r a s t came is en ep es b k = rw (← en, ← ep, ← es) (record { bytes = b; count = k })
+-- what was written for a number, a place, an offset and a section is the output of the answer that they make
+pub wrote : (n p o r : ℕ) (a : Answer) (s t came is : List ℕ) → n ≡ a .number → p ≡ a .place → o ≡ a .offset → s ≡ t →
+    is ≡ written (answerAt n p o) s ++ drop r came → r ≡ length (written (answerAt n p o) s) → Output r (written a t) came is
+wrote n p o r a s t came is en ep eo es b k = rw (← en, ← ep, ← eo, ← es) (record { bytes = b; count = k })
 
 -- of a refusal the section is not written
 any-section : (n p : ℕ) (s t : List ℕ) → (n ≡ 0 → ⊥) → written (answer n p) s ≡ written (answer n p) t

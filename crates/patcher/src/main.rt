@@ -44,13 +44,13 @@ fn fill(buffer: &mut [u8]) -> Input
     Input::Bytes(n)
 }
 
-// An answer by its number of refusal, 0 for none, and by its place.
+// An answer by its number of refusal, 0 for none, by its place and by its offset.
 fn number_of(a: Answer) -> u32
     ensures { λ r. ⌜ r ≡ answerIn a .number ⌝ }
 {
     match a {
         Answer::Patched(_) => 0,
-        Answer::Refused(number, _) => number,
+        Answer::Refused(number, _, _) => number,
     }
 }
 
@@ -59,7 +59,16 @@ fn place_of(a: Answer) -> u32
 {
     match a {
         Answer::Patched(place) => place,
-        Answer::Refused(_, place) => place,
+        Answer::Refused(_, place, _) => place,
+    }
+}
+
+fn offset_of(a: Answer) -> u64
+    ensures { λ r. ⌜ r ≡ answerIn a .offset ⌝ }
+{
+    match a {
+        Answer::Patched(_) => 0,
+        Answer::Refused(_, _, offset) => offset,
     }
 }
 
@@ -77,7 +86,13 @@ fn patch_and_write(
     ensures { λ r. ⌜ Output r (outputPatched (now (section .entry)) (now (records .entry)) (now (values .entry)) address gp) (now (out .entry)) (now (out .exit)) ⌝ }
 {
     let done = patch::patch(section, records, values, address, gp);
-    output::write(section, number_of(done), place_of(done), out)
+    output::write(
+        section,
+        number_of(done),
+        place_of(done),
+        offset_of(done),
+        out,
+    )
 }
 
 // The output for an input: its bytes in front of `out`, and how many they are. It is also the output for every longer input whose first
@@ -99,7 +114,7 @@ fn answer(
     let got = frames::read(input, section, values, records);
     let n = got.section;
     if got.number != 0 {
-        return output::write(&section[..n], got.number, got.place, out);
+        return output::write(&section[..n], got.number, got.place, 0, out);
     }
     let rows = got.values;
     let relas = got.records;

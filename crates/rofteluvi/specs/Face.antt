@@ -1,16 +1,16 @@
--- What a C caller is handed, as document 01's number, place and value, and what each call comes to.
+-- What a C caller is handed, as document 01's number, place, offset and value, and what each call comes to.
 use Prim.Native.Nat.{ℕ}
 use mathlib.Core.List.{List}
 use mathlib.Core.Path.{_≡_}
 use Rattle.meaning.specs.Call.{card64}
-use Rattle.meaning.specs.Checks.{Answer, answer}
+use Rattle.meaning.specs.Checks.{Answer, answerAt}
 use Rattle.meaning.specs.Patch.{call, answerOf, sectionOf}
 use Rattle.meaning.specs.ReadBack.{Immediate, readBackOf}
 use Rattle.rofteluvi.specs.declared.RofteluviAnswer.{RofteluviAnswer}
 use Rattle.rofteluvi.specs.declared.RofteluviImmediate.{RofteluviImmediate}
 
 abbrev pub answerIn : RofteluviAnswer → Answer
-answerIn r = answer (r .number) (r .place)
+answerIn r = answerAt (r .number) (r .place) (r .offset)
 
 abbrev pub immediateIn : RofteluviImmediate → Immediate
 immediateIn r = record { number = r .number; place = r .place; value = r .value }

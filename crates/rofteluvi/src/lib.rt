@@ -1,4 +1,4 @@
-// The C face: numbers and byte buffers in, a number, a place and a value out. include/rofteluvi.h declares it for a C program.
+// The C face: numbers and byte buffers in, a number, a place and an offset or a value out. include/rofteluvi.h declares it for a C program.
 use back::Immediate;
 use patch::Answer;
 ghost use Rattle.rofteluvi.specs.Face.{Patches, ReadsBack};
@@ -8,6 +8,7 @@ ghost use Rattle.rofteluvi.specs.Face.{Patches, ReadsBack};
 pub struct RofteluviAnswer {
     pub number: u32,
     pub place: u32,
+    pub offset: u64,
 }
 
 // rofteluvi_immediate of the header.
@@ -33,8 +34,13 @@ pub extern "C" fn rofteluvi_patch(
         Answer::Patched(count) => RofteluviAnswer {
             number: 0,
             place: count,
+            offset: 0,
         },
-        Answer::Refused(number, place) => RofteluviAnswer { number, place },
+        Answer::Refused(number, place, offset) => RofteluviAnswer {
+            number,
+            place,
+            offset,
+        },
     }
 }
 

@@ -1,21 +1,23 @@
 -- Judging step by step: one refusal after the other, over plain numbers.
 use Prim.Native.Nat.{ℕ, zero, suc, _-_, _%_, _^_, _≤_, _<_}
 use native.Mathlib.Omega.{arith}
-use mathlib.Core.Bool.{Bool, true, false, cond, not}
+use mathlib.Core.Bool.{Bool, true, false, cond, not, _&&_, _||_, true≢false, false≢true}
 use mathlib.Core.List.{List, [], _++_, map}
 use mathlib.Core.Path.{_≡_, refl, sym, ap, ap₂, _∙_, subst, subst⁻¹}
-use borrow.Author.Tests.{ne-eqb, eq-eqb, le-ltb}
-use lib.Dec.{eqb, ltb, eqb·suc-zero}
-use lib.IntN.{ℤ, pos, negℤ, natAbs}
+use borrow.Author.Tests.{ne-eqb, eq-eqb, ltb-true, ltb-false, le-leb, lt-leb, le-ltb}
+use lib.Dec.{eqb, leb, ltb, eqb·suc-zero, leb·suc-zero}
+use lib.IntN.{ℤ, pos, negsuc, negℤ, natAbs}
 use lib.ListN.{length, drop}
+use lib.Signed.{leZ, ltZ}
 use types.Run.{OneOf}
 use Rattle.meaning.specs.Table.{Value, Operation, Accepted, Semantics, any, operation, push, word, stack, of, whole, only, bytes, store-in}
 use Rattle.meaning.specs.Numbers.{signed}
 use Rattle.meaning.specs.Call as M
 use Rattle.meaning.specs.Call.{Record, valueOf, sumOf, formula}
 use Rattle.meaning.specs.Stack.{depth, entry, takes, pushes}
-use Rattle.meaning.specs.Checks.{outside, between, beyond, notMultiple, refuses}
+use Rattle.meaning.specs.Checks.{outside, above, below, notMultiple, refuses}
 use Rattle.lemmas.specs.Passed.{refusalOf}
+use Rattle.numbers.specs.Ranges.{between}
 use Rattle.table.specs.declared.Range.{Range}
 use Rattle.table.specs.declared.Sum.{Sum}
 use Rattle.table.specs.Columns.{valueFrom, sumFrom, formulaFrom, rangeFrom}
@@ -28,7 +30,7 @@ use Rattle.stack.specs.Tops.{tops, Fit, Holds, judgedNumber, Stands, takenAt, J
 use Rattle.stack.specs.Laws.{length-tops, taken-value}
 use Rattle.records.proofs.Laws.{bit-value}
 use Rattle.values.specs.Values.{refusalAt}
-use Rattle.steps.specs.Step.{valueRefusal, placeRefusal, rangeRefusal, Unchanged, Direct, Steps}
+use Rattle.steps.specs.Step.{valueRefusal, placeRefusal, rangeRefusal, beyond, Unchanged, Direct, Steps}
 use Rattle.steps.specs.Refusal.{then, refusal-word, refusal-bytes, refusal-pop, refusal-push, refusal-operation, direct-refusal, direct-after}
 
 -- ---- one refusal after the other
@@ -61,17 +63,40 @@ pub not-not : (b : Bool) → b ≡ not (not b)
 not-not true = refl
 not-not false = refl
 
+le-or-gt : (a b : ℕ) → leb a b ≡ not (ltb b a)
+le-or-gt a b = by (ltb b a) refl
+  where
+    by : (t : Bool) → ltb b a ≡ t → leb a b ≡ not t
+    by true e = lt-leb a b (ltb-true b a e)
+    by false e = le-leb a b (ltb-false b a e)
+
+-- inside a range is neither above it nor below it
+inside : (l h z : ℤ) → between l h z ≡ not (ltZ h z || ltZ z l)
+inside l h z = ap₂ _&&_ (le-or-gtZ l z) (le-or-gtZ z h) ∙ both (ltZ z l) (ltZ h z)
+  where
+    le-or-gtZ : (a b : ℤ) → leZ a b ≡ not (ltZ b a)
+    le-or-gtZ (pos a) (pos b) = le-or-gt a b
+    le-or-gtZ (pos a) (negsuc b) = refl
+    le-or-gtZ (negsuc a) (pos b) = refl
+    le-or-gtZ (negsuc a) (negsuc b) = le-or-gt b a
+
+    both : (a b : Bool) → not a && not b ≡ not (b || a)
+    both true true = refl
+    both true false = refl
+    both false true = refl
+    both false false = refl
+
 module _ (range : Range) (z : ℤ) where
   pub in-unsigned : range .sign ≡ 1 → between (pos 0) (pos (2 ^ range .bits - 1)) z ≡ not (beyond (rangeFrom range) z)
-  in-unsigned e = rw e (not-not (between (pos 0) (pos (2 ^ range .bits - 1)) z))
+  in-unsigned e = rw e (inside (pos 0) (pos (2 ^ range .bits - 1)) z)
 
   pub in-signed : (range .sign ≡ 1 → ⊥) → between (negℤ (pos (2 ^ (range .bits - 1)))) (pos (2 ^ (range .bits - 1) - 1)) z ≡ not (beyond (rangeFrom range) z)
   in-signed h = go (range .sign) refl
     where
       go : (k : ℕ) → range .sign ≡ k → between (negℤ (pos (2 ^ (range .bits - 1)))) (pos (2 ^ (range .bits - 1) - 1)) z ≡ not (beyond (rangeFrom range) z)
-      go zero e = rw e (not-not (between (negℤ (pos (2 ^ (range .bits - 1)))) (pos (2 ^ (range .bits - 1) - 1)) z))
+      go zero e = rw e (inside (negℤ (pos (2 ^ (range .bits - 1)))) (pos (2 ^ (range .bits - 1) - 1)) z)
       go (suc zero) e = absurd (h e)
-      go (suc (suc k)) e = rw e (not-not (between (negℤ (pos (2 ^ (range .bits - 1)))) (pos (2 ^ (range .bits - 1) - 1)) z))
+      go (suc (suc k)) e = rw e (inside (negℤ (pos (2 ^ (range .bits - 1)))) (pos (2 ^ (range .bits - 1) - 1)) z)
 
   pub by-4 : (range .sign ≡ 0 → ⊥) → (range .sign ≡ 1 → ⊥) → not (eqb (natAbs z % 4) 0) ≡ notMultiple (rangeFrom range) z
   by-4 g h = go (range .sign) refl
@@ -80,6 +105,43 @@ module _ (range : Range) (z : ℤ) where
       go zero e = absurd (g e)
       go (suc zero) e = absurd (h e)
       go (suc (suc k)) e = rw e
+
+-- Every range has 0 in it: what lies outside is below it where it is negative, and above it where it is not.
+sides : (least most : ℕ) (z : ℤ) (m : ℕ) → (ltZ (pos most) z || ltZ z (negℤ (pos least))) ≡ true →
+    cond (ltZ (pos most) z) 14 (cond (ltZ z (negℤ (pos least))) 18 m) ≡ cond (ltZ z (pos 0)) 18 14
+sides zero most (pos a) m e = by (ltb most a) e
+  where
+    by : (t : Bool) → (t || ltb a 0) ≡ true → cond t 14 (cond (ltb a 0) 18 m) ≡ cond (ltb a 0) 18 14
+    by true e = rw leb·suc-zero
+    by false e = absurd (false≢true (rw leb·suc-zero at e))
+sides (suc least) most (pos a) m e = by (ltb most a) e
+  where
+    by : (t : Bool) → (t || false) ≡ true → cond t 14 m ≡ cond (ltb a 0) 18 14
+    by true e = rw leb·suc-zero
+    by false e = absurd (false≢true e)
+sides least most (negsuc a) m e = rw e
+
+some-way : (t : Bool) → _≡_ {A = ℕ} (cond t 18 14) 0 → ⊥
+some-way true n = omega arith
+some-way false n = omega arith
+
+module _ (range : Range) (z : ℤ) where
+  pub missed-stops : {k : ℕ} {s : Stack} → beyond (rangeFrom range) z ≡ true → k ≡ cond (ltZ z (pos 0)) 18 14 → Direct (rangeRefusal (rangeFrom range) z) s (Refused k)
+  missed-stops {k} e f = stops (go (range .sign) refl ∙ sym f) (λ n. some-way (ltZ z (pos 0)) (sym f ∙ n))
+    where
+      go : (n : ℕ) → range .sign ≡ n → rangeRefusal (rangeFrom range) z ≡ cond (ltZ z (pos 0)) 18 14
+      go zero g = rw g (sides (2 ^ (range .bits - 1)) (2 ^ (range .bits - 1) - 1) z 0 (rw g at e))
+      go (suc zero) g = rw g (sides 0 (2 ^ range .bits - 1) z 0 (rw g at e))
+      go (suc (suc n)) g = rw g (sides (2 ^ (range .bits - 1)) (2 ^ (range .bits - 1) - 1) z (cond (not (eqb (natAbs z % 4) 0)) 15 0) (rw g at e))
+
+  -- a value in its range is refused where it is no multiple of 4
+  pub within : beyond (rangeFrom range) z ≡ false → rangeRefusal (rangeFrom range) z ≡ cond (notMultiple (rangeFrom range) z) 15 0
+  within e = by (above (rangeFrom range) z) (below (rangeFrom range) z) (cond (notMultiple (rangeFrom range) z) 15 0) e
+    where
+      by : (a b : Bool) (n : ℕ) → (a || b) ≡ false → cond a 14 (cond b 18 n) ≡ n
+      by true b n e = absurd (true≢false e)
+      by false true n e = absurd (true≢false e)
+      by false false n e = refl
 
 -- ---- the value that a type uses
 

@@ -1,12 +1,11 @@
 -- The refusal of one record by the class of its type: the checks that can fail, in their order, the others passing by themselves.
 use Prim.Native.Nat.{ℕ, suc, _≤_}
-use native.Mathlib.Nat.{ne-of-gt}
 use native.Mathlib.Omega.{arith}
 use mathlib.Core.Bool.{Bool, true, false, cond}
 use mathlib.Core.List.{List, [], _∷_, _++_}
 use mathlib.Core.Option.{some}
 use mathlib.Core.Path.{_≡_, refl, sym, ap, _∙_}
-use borrow.Author.Tests.{ne-eqb, le-ltb}
+use borrow.Author.Tests.{le-ltb}
 use lib.Dec.{eqb, ltb, leb·suc-zero}
 use lib.ListN.{length, drop, length-drop}
 use Rattle.meaning.specs.Table.{Semantics, unnamed, idle, loaders, push, operation, word, bytes, stack, of, Formula, Operation, Part, Accepted, Way}
@@ -14,10 +13,9 @@ use Rattle.meaning.specs.Call.{Setting, Record, PC, valueOf, sumOf, formula}
 use Rattle.meaning.specs.Numbers.{signed}
 use Rattle.meaning.specs.Stack as MS
 use Rattle.meaning.specs.Stack.{depth, entry, takes, pushes, after}
-use Rattle.meaning.specs.Checks.{Answer, answer, Check, check, first, ofRecord, past, absent, outside, unaligned, refuses}
-use Rattle.lemmas.specs.First.{Every, Numbered}
+use Rattle.meaning.specs.Checks.{Answer, answerAt, first, past, absent, outside, unaligned, refuses}
 use Rattle.lemmas.specs.Operations.{own-number}
-use Rattle.lemmas.specs.Passed.{refusalOf, record-numbered}
+use Rattle.lemmas.specs.Passed.{refusalOf}
 use Rattle.table.specs.Keys.{class}
 use Rattle.steps.specs.Step.{valueRefusal, placeRefusal, rangeRefusal}
 
@@ -30,36 +28,11 @@ then-two true b m n x e f = rw e
 then-two false true m n x e f = rw f
 then-two false false m n x e f = refl
 
--- ---- the place
-
--- a list of checks, each at the place i
-placed : ℕ → List Check → List Check
-placed i [] = []
-placed i (k ∷ ks) = check (k .number) i (k .fails) ∷ placed i ks
-
-first-placed : (i : ℕ) (ks : List Check) (a : Answer) → Every Numbered ks →
-    first (placed i ks) a ≡ cond (eqb (first ks (answer 0 0) .number) 0) a (answer (first ks (answer 0 0) .number) i)
-unfolding first placed
-first-placed i [] a p = refl
-first-placed i (k ∷ ks) a p = go (k .fails) refl (first-placed i ks a (p .1))
-  where
-    go : (b : Bool) → k .fails ≡ b →
-        first (placed i ks) a ≡ cond (eqb (first ks (answer 0 0) .number) 0) a (answer (first ks (answer 0 0) .number) i) →
-        first (placed i (k ∷ ks)) a ≡ cond (eqb (first (k ∷ ks) (answer 0 0) .number) 0) a (answer (first (k ∷ ks) (answer 0 0) .number) i)
-    go true e rest = simp (e, ne-eqb (k .number) 0 (ne-of-gt (p .0)))
-    go false e rest = rw e rest
-
--- The checks of record i answer its refusal at i, or leave the answer to what comes after.
-pub first-record : (c : Setting) (i : ℕ) (r : Record) (d : Semantics) (st : MS.Stack) (a : Answer) →
-    first (ofRecord c i r d st) a ≡ cond (eqb (refusalOf c r d st) 0) a (answer (refusalOf c r d st) i)
-unfolding placed
-first-record c i r d st a = first-placed i (ofRecord c 0 r d st) a (record-numbered c 0 r d st)
-
 -- ---- the classes
 
-number-cond : (b : Bool) (n : ℕ) (a : Answer) → cond b (answer n 0) a .number ≡ cond b n (a .number)
-number-cond true n a = refl
-number-cond false n a = refl
+number-cond : (b : Bool) (n o : ℕ) (a : Answer) → cond b (answerAt n 0 o) a .number ≡ cond b n (a .number)
+number-cond true n o a = refl
+number-cond false n o a = refl
 
 module _ (c : Setting) (r : Record) (st : MS.Stack) (low : length st ≤ depth) where
   refusal-idle : refusalOf c r idle st ≡ 0

@@ -1,6 +1,6 @@
 -- One record's step: what its checks refuse, by number, and what judging answers.
 use Prim.Native.Nat.{ℕ, _<_}
-use mathlib.Core.Bool.{cond}
+use mathlib.Core.Bool.{Bool, cond, _||_}
 use mathlib.Core.List.{List}
 use mathlib.Core.Option.{some}
 use mathlib.Core.Path.{_≡_}
@@ -10,7 +10,7 @@ use Rattle.meaning.specs.Table.{Value, Accepted, Semantics}
 use Rattle.meaning.specs.Call as M
 use Rattle.meaning.specs.Call.{Record, card64, rowBytes, no-row, symbolIn, PC}
 use Rattle.meaning.specs.Stack.{after}
-use Rattle.meaning.specs.Checks.{past, absent, outside, unaligned, beyond, notMultiple}
+use Rattle.meaning.specs.Checks.{past, absent, outside, unaligned, above, below, notMultiple}
 use Rattle.lemmas.specs.Passed.{refusalOf}
 use Rattle.stack.specs.declared.Stack.{Stack}
 use Rattle.stack.specs.declared.Judged.{Judged}
@@ -26,9 +26,13 @@ valueRefusal c r v = cond (past c r (some v)) 6 (cond (absent r (some v)) 7 0)
 abbrev pub placeRefusal : M.Setting → Record → ℕ
 placeRefusal c r = cond (outside (c .size) (r .offset) 4) 8 (cond (unaligned (PC c r)) 9 0)
 
--- 14 and 15, of a word's value
+-- 14, 18 and 15, of a word's value
 abbrev pub rangeRefusal : Accepted → ℤ → ℕ
-rangeRefusal range z = cond (beyond range z) 14 (cond (notMultiple range z) 15 0)
+rangeRefusal range z = cond (above range z) 14 (cond (below range z) 18 (cond (notMultiple range z) 15 0))
+
+-- outside its range, on either side
+abbrev pub beyond : Accepted → ℤ → Bool
+beyond range z = above range z || below range z
 
 -- What the code holds at a record: its bytes and its row, whole; a symbol past the rows has the row of nothing.
 pub record Ready (setting : Setting) (rela row : List ℕ) : Type 0 where

@@ -10,7 +10,9 @@ ghost use mathlib.Core.Path.{_≡_};
 ghost use mathlib.Core.Bool as B;
 ghost use mathlib.Core.List.{[]};
 ghost use Prim.Native.Nat.{_≤_, _<_};
+ghost use lib.IntN.{pos};
 ghost use lib.ListN.{length};
+ghost use lib.Signed.{ltZ};
 ghost use Rattle.meaning.specs.Table as T;
 ghost use Rattle.meaning.specs.Table.{semantics, any, of, whole, only, store-in};
 ghost use Rattle.meaning.specs.Numbers.{signed};
@@ -22,7 +24,7 @@ ghost use Rattle.table.specs.Columns.{valueFrom, formulaFrom, rangeFrom};
 ghost use Rattle.table.specs.Keys.{class};
 ghost use Rattle.stack.specs.Tops.{Fit};
 ghost use Rattle.records.specs.Given.{asSetting, seen};
-ghost use Rattle.steps.specs.Step.{Ready, Direct, Steps, valueRefusal, placeRefusal, rangeRefusal};
+ghost use Rattle.steps.specs.Step.{Ready, Direct, Steps, valueRefusal, placeRefusal, rangeRefusal, beyond};
 
 // ---- the checks of several classes
 
@@ -65,7 +67,7 @@ fn place(rela: &[u8], setting: Setting, stack: Stack) -> Judged
 // Whether a value is in its accepted range.
 fn in_range(range: Range, x: u64) -> bool
     requires { ⌜ (1 ≤ range .bits) × (range .bits < 63) ⌝ }
-    ensures { λ r. ⌜ r ≡ B.not (C.beyond (rangeFrom range) (signed 64 x)) ⌝ }
+    ensures { λ r. ⌜ r ≡ B.not (beyond (rangeFrom range) (signed 64 x)) ⌝ }
 {
     let sign = range.sign;
     match sign {
@@ -86,7 +88,14 @@ fn no_multiple(range: Range, x: u64) -> bool
     }
 }
 
-// Refusals 14 and 15, of a value.
+// Which way a value misses its range: 14 for above, 18 for below. Every range has 0 in it, so that below is where the negative ones miss.
+fn missed(x: u64) -> u32
+    ensures { λ r. ⌜ r ≡ B.cond (ltZ (signed 64 x) (pos 0)) 18 14 ⌝ }
+{
+    if numbers::signed(x) < 0 { 18 } else { 14 }
+}
+
+// Refusals 14, 18 and 15, of a value.
 fn ranged(x: u64, stack: Stack, range: Range) -> Judged
     requires { ⌜ (1 ≤ range .bits) × (range .bits < 63) ⌝ }
     ensures { λ r. ⌜ Direct (rangeRefusal (rangeFrom range) (signed 64 x)) stack r ⌝ }
@@ -94,7 +103,7 @@ fn ranged(x: u64, stack: Stack, range: Range) -> Judged
     let beyond = !in_range(range, x);
     let odd = no_multiple(range, x);
     if beyond {
-        return Judged::Refused(14);
+        return Judged::Refused(missed(x));
     }
     if odd {
         return Judged::Refused(15);

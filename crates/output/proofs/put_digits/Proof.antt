@@ -24,9 +24,6 @@ sub-left c = search needs
 mul-digit-for : tie.Need-mul-digit-for Inv-loop μ-loop
 mul-digit-for c = search needs
 
-cast-digit-for : tie.Need-cast-digit-for Inv-loop μ-loop
-cast-digit-for c = search needs
-
 shr-digit-for : tie.Need-shr-digit-for Inv-loop μ-loop
 shr-digit-for c = search needs
 
@@ -66,7 +63,6 @@ put-digits-spec =
     loop-holds
     sub-left
     mul-digit-for
-    cast-digit-for
     shr-digit-for
     digit-for-requires
     slice-write-out

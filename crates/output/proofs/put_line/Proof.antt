@@ -1,7 +1,9 @@
 use borrow.Author.Needs.{needs}
-use mathlib.Core.Path.{refl}
-use lib.ListN.{length-set}
-use Rattle.output.proofs.Writer.{line-whole, line-put}
+use Prim.Native.Nat.{_+_, _*_}
+use native.Mathlib.Omega.{arith}
+use lib.ListN.{length, length-set}
+use Rattle.meaning.specs.Frames.{digits, digitsOf}
+use Rattle.output.proofs.Writer.{length-digits, length-digitsOf, line-whole, line-put}
 use Rattle.output.proofs.put_line.Statement.{statement}
 use Rattle.output.proofs.put_line.Tie as tie
 
@@ -30,10 +32,20 @@ add-result : tie.Need-add-result
 add-result c = search needs
 
 same-length : tie.Need-same-length
-same-length c = let a = c .before .before .before .before .before .before .before .before .before .before .args in rw length-set (line-whole (a .at) _ (a .bytes .now) (a .out .now) _ _ (c .before .before .before .before .before .before .before .before .before .before .pre) (c .before .before .before .before .before .before .put-digits .ensures) (c .before .before .put-bytes .ensures) refl)
+same-length c =
+    let p = c .before .before .before .before .before .before .before .before .before .before .pre in
+    let a = c .before .before .before .before .before .before .before .before .before .before .args in
+    let n = 2 * length (a .bytes .now) in
+    rw length-set (line-whole (a .at) (a .at + (n + 2)) 2 n (digits 2 2) (digitsOf (a .bytes .now)) (a .out .now) _ _ (length-digits 2 2) (length-digitsOf (a .bytes .now)) (omega (arith, p)) (c .before .before .before .before .before .before .put-digits .ensures) (c .before .before .put-bytes .ensures) (omega arith))
 
 returns : tie.Need-returns
-returns c = let a = c .before .before .before .before .before .before .before .before .before .before .args in (line-put (a .at) _ (a .bytes .now) (a .out .now) _ _ (c .before .before .before .before .before .before .before .before .before .before .pre) (c .before .before .before .before .before .before .put-digits .ensures) (c .before .before .put-bytes .ensures) refl, search needs)
+returns c =
+    let p = c .before .before .before .before .before .before .before .before .before .before .pre in
+    let a = c .before .before .before .before .before .before .before .before .before .before .args in
+    let n = 2 * length (a .bytes .now) in (
+      line-put (a .at) (a .at + (n + 2)) 2 n (digits 2 2) (digitsOf (a .bytes .now)) (a .out .now) _ _ (length-digits 2 2) (length-digitsOf (a .bytes .now)) (omega (arith, p)) (c .before .before .before .before .before .before .put-digits .ensures) (c .before .before .put-bytes .ensures) (omega arith),
+      search needs,
+    )
 
 pub put-line-spec : {M : Type 1} → statement M
 put-line-spec =

@@ -9,7 +9,7 @@ use Rattle.meaning.specs.Checks.{answer}
 use Rattle.stack.specs.Tops.{judgedNumber, Stands}
 use Rattle.steps.specs.Step.{Steps}
 use Rattle.records.specs.Given.{asSetting, given}
-use Rattle.patch.proofs.Laws.{Turn, turn, record-whole, recordAt, doing, Going, going-start, stops-here, goes-on, ends-left, ends-accepted}
+use Rattle.patch.proofs.Laws.{Turn, turn, recordAt, doing, Going, going-start, stops-here, refused-so, goes-on, ends-left, ends-accepted}
 use Rattle.patch.proofs.judge.Statement.{statement}
 use Rattle.patch.proofs.judge.Tie as tie
 
@@ -47,7 +47,7 @@ looked r =
     let l = turning r .before in
     let b = begun l in
     turn (b .args .setting) (bytes b) (b .args .values .now) (r .before .before .before .record-at .result .now) (r .row .result .now) (l .loop .i) (r .before .symbol .result)
-    (b .pre .2) (more (turning r)) (r .before .before .before .record-at .ensures) (r .before .symbol .ensures) (r .row .ensures)
+    (b .pre .2) (r .before .before .before .record-at .ensures) (r .before .symbol .ensures) (r .row .ensures)
 
 stepped : (c : tie.After-step Inv-loop μ-loop) →
     let l = turning (c .before .before) .before in
@@ -70,7 +70,7 @@ record-at-requires : tie.Need-record-at-requires Inv-loop μ-loop
 record-at-requires c κs = (more c, few (begun (c .before)))
 
 symbol-requires : tie.Need-symbol-requires Inv-loop μ-loop
-symbol-requires c κs = let r = c .before in record-whole _ _ _ (more (r .before)) (r .record-at .ensures)
+symbol-requires c κs = c .before .record-at .ensures .1
 
 row-requires : tie.Need-row-requires Inv-loop μ-loop
 row-requires c κs = begun (c .before .before .before .before) .pre .1
@@ -81,20 +81,20 @@ step-requires c κs = let r = c .before in (looked r .ready, turning r .before .
 enum-known-judged : tie.Need-enum-known-judged Inv-loop μ-loop
 enum-known-judged c = search needs
 
-cast-t20 : tie.Need-cast-t20 Inv-loop μ-loop
-cast-t20 c = let t = turning (c .before .before .before .before .before) in omega (arith, few (begun (t .before)), more t)
+refused-at-requires : tie.Need-refused-at-requires Inv-loop μ-loop
+refused-at-requires c κs = let t = turning (c .before .before .before .before .before) in (more t, few (begun (t .before)))
 
 returns : tie.Need-returns Inv-loop μ-loop
 returns c =
-    let step = c .before .before .before in
+    let given = c .before .before .judged .given in
+    let step = c .before .before .before .before in
     let t = turning (step .before .before) in
     let l = t .before in
     let b = begun l in
-    let n = c .before .judged .given .0 .0 in
-    let e = c .before .judged .given .1 in
+    let e = given .1 in
     let s = stepped step in
-    let some : n ≡ 0 → ⊥ = subst (Stands _ _) e (s .leaves) in
-    record { says = stops-here (call b) (bytes b) (l .loop .entries) (l .loop .stack .height) (l .loop .i) (more t) (l .loop .inv .1) n (sym (ap judgedNumber e) ∙ s .says) some; proper = some }
+    let some : given .0 .0 ≡ 0 → ⊥ = subst (Stands _ _) e (s .leaves) in
+    refused-so _ _ _ (c .refused-at .ensures) (stops-here (call b) (bytes b) (l .loop .entries) (l .loop .stack .height) (l .loop .i) (more t) (l .loop .inv .1) _ (sym (ap judgedNumber e) ∙ s .says) some) some
 
 enum-known-judged-2 : tie.Need-enum-known-judged-2 Inv-loop μ-loop
 enum-known-judged-2 c = search needs
@@ -117,8 +117,8 @@ loop-again c =
       goes-on (call b) (bytes b) (l .loop .entries) (l .loop .stack .height) (l .loop .i) (more t) (l .loop .inv .1) _ _ (sym (s .says) ∙ ap judgedNumber e) (subst (Stands _ _) e (s .leaves)),
     )
 
-cast-t22 : tie.Need-cast-t22 Inv-loop μ-loop
-cast-t22 c = let l = c .before .before .before in omega (arith, few (begun l), l .loop .inv .0)
+cast-t21 : tie.Need-cast-t21 Inv-loop μ-loop
+cast-t21 c = let l = c .before .before .before in omega (arith, few (begun l), l .loop .inv .0)
 
 returns-2 : tie.Need-returns-2 Inv-loop μ-loop
 returns-2 c =
@@ -126,8 +126,8 @@ returns-2 c =
     let b = begun l in
     record { says = ap (answer 16) (l .loop .inv .0) ∙ ends-left (call b) (bytes b) (l .loop .entries) (l .loop .stack .height) (l .loop .i) (omega arith) (l .loop .inv .1) (c .if1 .taken); proper = omega arith }
 
-cast-t23 : tie.Need-cast-t23 Inv-loop μ-loop
-cast-t23 c = let l = c .before .before .before in omega (arith, few (begun l), l .loop .inv .0)
+cast-t22 : tie.Need-cast-t22 Inv-loop μ-loop
+cast-t22 c = let l = c .before .before .before in omega (arith, few (begun l), l .loop .inv .0)
 
 returns-3 : tie.Need-returns-3 Inv-loop μ-loop
 returns-3 c =
@@ -148,13 +148,13 @@ judge-spec =
     row-requires
     step-requires
     enum-known-judged
-    cast-t20
+    refused-at-requires
     returns
     enum-known-judged-2
     add-i
     loop-less
     loop-again
-    cast-t22
+    cast-t21
     returns-2
-    cast-t23
+    cast-t22
     returns-3)

@@ -9,7 +9,7 @@ use Rattle.lemmas.specs.Passed.{refusalOf}
 use Rattle.stack.specs.Tops.{tops}
 use Rattle.records.specs.Given.{asSetting, given}
 use Rattle.writers.specs.Written.{Writes}
-use Rattle.patch.proofs.Laws.{Turn, turn, record-whole, recordAt, doing, Going, Leaving, going-start, leaving-start, passes-here, goes-on, leaves-on, ends-leaving}
+use Rattle.patch.proofs.Laws.{Turn, turn, recordAt, doing, Going, Leaving, going-start, leaving-start, passes-here, goes-on, leaves-on, ends-leaving}
 use Rattle.patch.proofs.write_all.Statement.{statement}
 use Rattle.patch.proofs.write_all.Tie as tie
 
@@ -49,7 +49,7 @@ looked r =
     let l = turning r .before in
     let b = begun l in
     turn (b .args .setting) (bytes b) (b .args .values .now) (r .before .before .before .record-at .result .now) (r .row .result .now) (l .loop .written) (r .before .symbol .result)
-    (b .pre .0 .2) (more (turning r)) (r .before .before .before .record-at .ensures) (r .before .symbol .ensures) (r .row .ensures)
+    (b .pre .0 .2) (r .before .before .before .record-at .ensures) (r .before .symbol .ensures) (r .row .ensures)
 
 passes : (t : tie.In-loop Inv-loop μ-loop) →
     let l = t .before in
@@ -83,7 +83,7 @@ record-at-requires : tie.Need-record-at-requires Inv-loop μ-loop
 record-at-requires c κs = (more c, few (begun (c .before)))
 
 symbol-requires : tie.Need-symbol-requires Inv-loop μ-loop
-symbol-requires c κs = let r = c .before in record-whole _ _ _ (more (r .before)) (r .record-at .ensures)
+symbol-requires c κs = c .before .record-at .ensures .1
 
 row-requires : tie.Need-row-requires Inv-loop μ-loop
 row-requires c κs = begun (c .before .before .before .before) .pre .0 .1

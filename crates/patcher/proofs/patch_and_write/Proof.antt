@@ -14,6 +14,9 @@ number-of-requires c κs = search needs
 place-of-requires : tie.Need-place-of-requires
 place-of-requires c κs = search needs
 
+offset-of-requires : tie.Need-offset-of-requires
+offset-of-requires c κs = search needs
+
 write-requires : tie.Need-write-requires
 write-requires c κs = search needs
 
@@ -25,10 +28,16 @@ same-length-2 c = search needs
 
 returns : tie.Need-returns
 returns c =
-    let patched = c .before .before .before .before .before .before .before .before .before .patch .ensures in
+    let offset = c .before .before .before .before in
+    let place = offset .before in
+    let number = place .before in
+    let patched = number .before .before .before .before .patch .ensures in
     let says = patched .answers .says in
-    wrote (c .before .before .before .before .before .number-of .result) (c .before .before .before .before .place-of .result) (c .before .before .write .result) _ _ _ _ _
-    (c .before .before .before .before .before .number-of .ensures ∙ ap (λ (a : Answer). a .number) says) (c .before .before .before .before .place-of .ensures ∙ ap (λ (a : Answer). a .place) says) (patched .leaves)
+    wrote (number .number-of .result) (place .place-of .result) (offset .offset-of .result) (c .before .before .write .result) _ _ _ _ _
+    (number .number-of .ensures ∙ ap (λ (a : Answer). a .number) says)
+    (place .place-of .ensures ∙ ap (λ (a : Answer). a .place) says)
+    (offset .offset-of .ensures ∙ ap (λ (a : Answer). a .offset) says)
+    (patched .leaves)
     (c .before .before .write .ensures .0) (c .before .before .write .ensures .1)
 
 pub patch-and-write-spec : {M : Type 1} → statement M
@@ -38,6 +47,7 @@ patch-and-write-spec =
     patch-requires
     number-of-requires
     place-of-requires
+    offset-of-requires
     write-requires
     same-length
     same-length-2

@@ -2,7 +2,7 @@ use Prim.Native.Nat.{_-_, _^_}
 use mathlib.Core.Path.{ap, _∙_}
 use lib.IntN.{pos, negℤ}
 use Rattle.meaning.specs.Numbers.{signed}
-use Rattle.meaning.specs.Checks.{between}
+use Rattle.numbers.specs.Ranges.{between}
 use Rattle.stack.proofs.Numbers.{same}
 use Rattle.steps.proofs.Laws.{in-unsigned, in-signed}
 use borrow.Author.Needs.{needs}
