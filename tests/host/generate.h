@@ -17,9 +17,11 @@ void generate_drain(struct draft *d, struct stack *stack);
 /* Appends a record, if the reference accepts it; answers the reference's number. */
 uint32_t generate_try(struct draft *d, struct stack *stack, uint64_t offset, uint32_t type, uint32_t symbol, uint64_t addend);
 
-/* Appends what it takes to have the next record of a list, so far accepted, be refused with this number, 4 to 15. */
+/* The numbers of a record's refusals, in the order of checking: 4 to 15, and 18 after 14. */
 enum { RECORD_FAULTS = 13 };
-extern const uint32_t record_fault[RECORD_FAULTS]; /* the numbers of a record's refusals: 4 to 15, and 18 */
+extern const uint32_t record_fault[RECORD_FAULTS];
+
+/* Appends what it takes to have the next record of a list, so far accepted, be refused with this number, one of record_fault. */
 void generate_fault(struct draft *d, struct stack *stack, uint32_t number);
 
 /* Type numbers that the table does not name, by an index below this. */

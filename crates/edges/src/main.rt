@@ -1,7 +1,6 @@
 // Runs the edges of document 01 that are not proved as its table, and a few more. Each is a call of its own, on a section of one word 0, at
 // section address 0, with GP 0 and no value rows. Each prints a line: the edge, the number of refusal, the place, the offset and the word
-// afterwards.
-// What the document says to each stands in the file `stdout`, worked out from the document and not from the program.
+// afterwards. What the documents say to each stands in the file `stdout`, worked out from them and not from the program.
 use libc::STDOUT_FILENO;
 use patch::Answer;
 ghost use mathlib.Core.Path.{_≡_};

@@ -1,4 +1,4 @@
--- A call on real bytes: what `named-bits-only` and `read-back-gives` ask can be met, and what they then say of it.
+-- A call on real bytes: what `named-bits-only`, `read-back-gives` and `below-is-18` ask can be met, and what they then say of it.
 use Prim.Native.Nat.{ℕ, _-_, _^_}
 use native.Mathlib.Omega.{arith}
 use mathlib.Core.List.{List, [], _∷_, _++_}
@@ -10,7 +10,7 @@ use Rattle.meaning.specs.Numbers.{number, bytesOf, cut}
 use Rattle.meaning.specs.Table.{Accepted, from_to_, any, stack, bits_⋯_to_⋯_, neg, table, look}
 use Rattle.meaning.specs.Call.{Call, card64, Record, symbol0, recordsOf}
 use Rattle.meaning.specs.Field.{put}
-use Rattle.meaning.specs.Checks.{Answer, answer, first, ofRecords, ofMasks, checks}
+use Rattle.meaning.specs.Checks.{Answer, answer, answerAt, first, below, ofRecords, ofMasks, checks}
 use Rattle.meaning.specs.Patch.{call, answerOf, patched, sectionOf}
 use Rattle.meaning.specs.ReadBack.{readBackOf}
 use Rattle.meaning.specs.Order.{run}
@@ -20,6 +20,7 @@ use Rattle.laws.specs.Bits.{bitAt}
 use Rattle.laws.specs.Section.{BitUntouched, named-bits-only}
 use Rattle.laws.specs.Order.{record-bytes}
 use Rattle.laws.specs.ReadBack.{WordUntouched, read-back-gives}
+use Rattle.laws.specs.Refused.{Missed, below-is-18}
 
 -- addi.d $a0, $t0, 0; b 0; four bytes of data: at address 1000h
 pub code : List ℕ
@@ -87,3 +88,17 @@ read-back-example =
     let checked : range ≢ any = λ e. let z : _≡_ {A = ℕ} 0 1 = cc in omega arith in
     read-back-gives at-1000 code four refl before later pop stack (bits 11 ⋯ 0 to 21 ⋯ 10 ∷ []) range
     (ap (λ (a : Answer). a .number) (accepted .0)) in-list refl none-later (omega arith) checked
+
+-- ---- which way a value missed its range
+
+-- -17 pushed (23) and put into the word at 4 (38), whose range begins at -16
+pub too-low : List ℕ
+too-low = record-bytes 0 23 (2 ^ 64 - 17) ++ record-bytes 4 38 0
+
+pub refused-low : answerOf at-1000 too-low ≡ answerAt 18 1 4
+unfolding code at-1000 too-low record-bytes number bytesOf cut table look first ofRecords ofMasks checks
+refused-low = refl
+
+-- So there is a record whose value is below its range, and no check before that one fails.
+pub missed-low : Missed 18 below at-1000 too-low
+missed-low = below-is-18 at-1000 too-low .0 (ap (λ (a : Answer). a .number) refused-low)

@@ -1,17 +1,17 @@
 -- The answer is that of the first check that fails: what document 01's fixed order of checks promises.
-use Prim.Native.Nat.{ℕ, suc, _<_}
+use Prim.Native.Nat.{ℕ, suc}
 use native.Mathlib.Omega.{arith}
-use mathlib.Core.Bool.{true, false}
+use mathlib.Core.Bool.{false}
 use mathlib.Core.List.{List, [], _∷_}
 use mathlib.Core.Logic.{_↔_}
 use mathlib.Core.Path.{_≡_, refl, ap}
 use Rattle.meaning.specs.Call.{Setting, Call, Record, does, recordsOf, rowsOf}
 use Rattle.meaning.specs.Stack.{Stack, after}
-use Rattle.meaning.specs.Checks.{Answer, ofRecord, ofRecords, ofMasks, checks}
+use Rattle.meaning.specs.Checks.{Answer, Check, ofRecord, ofRecords, ofMasks, checks}
 use Rattle.meaning.specs.Patch.{answerOf}
 pub use Rattle.lemmas.specs.First.{Every, Passes, Numbered, nth, every-append, every-left, every-right, every-nth, nth-every}
-pub use Rattle.lemmas.specs.First.{first-passed, first-at, zero-passes}
-use Rattle.lemmas.specs.First.{masks-numbered}
+pub use Rattle.lemmas.specs.First.{first-passed, FailsFirst, zero-passes}
+use Rattle.lemmas.specs.First.{first-fails, masks-numbered}
 use Rattle.lemmas.specs.Passed.{record-numbered}
 
 -- ---- the checks of a call
@@ -43,7 +43,5 @@ accepted-exactly c records = (
 )
 
 -- A call that some check refuses answers with the number, the place and the offset of the first that fails.
-pub refused-by-the-first : (c : Call) (records : List ℕ) (n : ℕ) → nth (checks c records) n .fails ≡ true →
-    ((m : ℕ) → m < n → nth (checks c records) m .fails ≡ false) →
-    answerOf c records ≡ nth (checks c records) n .refusal
-refused-by-the-first c records n p q = first-at (checks c records) _ n p q
+pub refused-by-the-first : (c : Call) (records : List ℕ) (k : Check) → FailsFirst (checks c records) k → answerOf c records ≡ k .refusal
+refused-by-the-first c records k f = first-fails (checks c records) k _ f

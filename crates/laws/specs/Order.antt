@@ -6,9 +6,9 @@ use native.Mathlib.Nat.{zero-add, suc-add, suc-mul, zero-lt-suc, div-zero, zero-
 use native.Mathlib.Omega.{arith}
 use mathlib.Core.Bool.{Bool, true, false, not, _&&_, _||_}
 use mathlib.Core.List.{List, [], _∷_, _++_, map-append}
-use mathlib.Core.Logic.{_↔_, _≢_}
-use mathlib.Core.Path.{_≡_, refl, sym, ap, _∙_, subst}
-use lib.Dec.{T, eqb, ltb, T-not, eqb-refl, eqb→eq, lt→ltb, ltb→lt}
+use mathlib.Core.Logic.{_↔_}
+use mathlib.Core.Path.{_≡_, refl, sym, ap, _∙_}
+use lib.Dec.{T, eqb, ltb, eqb→eq, lt→ltb, ltb→lt}
 use lib.ListN.{length, drop, replicate, length-append, length-drop}
 use lib.Seq.{take-append-le, drop-append-le}
 use Rattle.meaning.specs.Numbers.{number, bytesOf, cut}
@@ -19,7 +19,7 @@ use Rattle.meaning.specs.Field.{put}
 use Rattle.meaning.specs.Checks.{Answer, answer, first, ofRecord, ofRecords, ofMasks, checks}
 use Rattle.meaning.specs.Patch.{call, answerOf, patched, sectionOf}
 use Rattle.meaning.specs.Order.{run, Group, Groups, joined, commonWith, commonByte, mayChange, named, apart, eachOnce, group, mayLead, keepsOrder, rearranged}
-use Rattle.lemmas.specs.Look.{both}
+use Rattle.lemmas.specs.Look.{both, differ}
 use Rattle.lemmas.specs.Passed.{PassedCall}
 use Rattle.laws.specs.First.{Every, Passes, every-append, every-left, every-right, first-passed}
 use Rattle.laws.specs.Section.{accepted-passed, accepted-answers, accepted-leaves}
@@ -159,9 +159,8 @@ module _ (c : Call) where
   aheads gs k (j ∷ ks) h m =
       let (h₁, h₂) = neither (eqb k j) (named k ks) h in
       let (m₁, m₂) = both (not (ltb j k) || mayChange c (group gs j) (group gs k)) (mayLead c gs k ks) m in
-      let differ : k ≢ j = λ e. T-not (eqb k j) h₁ (subst (λ (x : ℕ). T (eqb k x)) e (eqb-refl k)) in
       let may : j < k → May (group gs j) (group gs k) = λ l. implied (ltb j k) (mayChange c (group gs j) (group gs k)) m₁ (lt→ltb j k l) in
-      ((differ, may), aheads gs k ks h₂ m₂)
+      ((differ k j h₁, may), aheads gs k ks h₂ m₂)
 
   allowed : (gs : List (List ℕ)) (ks : List ℕ) → T (apart (length gs) ks) → T (keepsOrder c gs ks) → Allowed May gs ks
   unfolding apart keepsOrder

@@ -7,7 +7,7 @@ use mathlib.Core.Bool.{Bool, true, false, cond, not, _&&_, _||_}
 use mathlib.Core.List.{List, [], _∷_, _++_, append-assoc}
 use mathlib.Core.Logic.{_↔_, _⊎_, inl, inr, ⊎-elim}
 use mathlib.Core.Path.{_≡_, refl, sym, ap, _∙_, subst, subst⁻¹}
-use lib.Dec.{T, eqb, leb, T-not, eqb-refl}
+use lib.Dec.{T, eqb, leb, T-not}
 use lib.IntN.{ℤ}
 use lib.ListN.{length, take, drop, getD, length-append, take-append-drop, List·getD-map}
 use lib.Seq.{drop-cons, getD-append-seam}
@@ -18,30 +18,13 @@ use Rattle.meaning.specs.Stack.{Stack, after}
 use Rattle.meaning.specs.Checks.{Answer, answer, answerAt, Check, check, checkOf, first, ofWord, above, below, ofRecord, ofRecords, ofMasks, checks}
 use Rattle.meaning.specs.Patch.{answerOf}
 use Rattle.meaning.specs.Order.{run}
-use Rattle.lemmas.specs.Look.{both}
-use Rattle.lemmas.specs.First.{first-append}
+use Rattle.lemmas.specs.Look.{both, differ}
 use Rattle.lemmas.specs.Passed.{placed}
 use Rattle.lemmas.specs.Pieces.{piece, piece-at, length-records}
-use Rattle.laws.specs.First.{Every, Passes, nth, every-append, first-passed}
+use Rattle.laws.specs.First.{Every, Passes, nth, every-append, FailsFirst, refused-by-the-first}
 use Rattle.laws.specs.ReadBack.{value}
 
 -- ---- the first that fails
-
--- In a list of checks, one that fails, and none before it does.
-pub record FailsFirst (ks : List Check) (k : Check) : Type 0 where
-  pub earlier : List Check
-  pub later : List Check
-  pub in-order : ks ≡ earlier ++ k ∷ later
-  pub pass : Every Passes earlier
-  pub fails : k .fails ≡ true
-
-first-fails : (ks : List Check) (k : Check) (a : Answer) → FailsFirst ks k → first ks a ≡ k .refusal
-unfolding first
-first-fails ks k a f =
-    ap (λ (l : List Check). first l a) (f .in-order)
-    ∙ first-append (f .earlier) (k ∷ f .later) a
-    ∙ first-passed (f .earlier) _ (f .pass)
-    ∙ rw (f .fails)
 
 -- after checks that pass
 passing : (ls : List Check) {ks : List Check} {k : Check} → Every Passes ls → FailsFirst ks k → FailsFirst (ls ++ ks) k
@@ -71,9 +54,7 @@ after-those n (k ∷ ks) ls a t e =
   where
     go : (b : Bool) → k .fails ≡ b → T (not (eqb (k .refusal .number) n)) →
         (first (ks ++ ls) a .number ≡ n → Every Passes ks × (first ls a .number ≡ n)) → Every Passes (k ∷ ks) × (first ls a .number ≡ n)
-    go true f other rest =
-        let same : k .refusal .number ≡ n = rw f at e in
-        absurd (T-not (eqb (k .refusal .number) n) other (subst (λ (x : ℕ). T (eqb (k .refusal .number) x)) same (eqb-refl (k .refusal .number))))
+    go true f other rest = let same : k .refusal .number ≡ n = rw f at e in absurd (differ (k .refusal .number) n other same)
     go false f other rest = let q = rest (rw f at e) in ((f, q .0), q .1)
 
 masks-without : (n : ℕ) → T (not (eqb 3 n)) → (i : ℕ) (rows : List (List ℕ)) → T (without n (ofMasks i rows))
@@ -192,7 +173,7 @@ pub record Missed (n : ℕ) (test : Accepted → ℤ → Bool) (c : Call) (recor
 module _ (n : ℕ) (test : Accepted → ℤ → Bool) (c : Call) (records : List ℕ) where
   -- The answer is then n, the record's number and its offset.
   pub missed-answers : (m : Missed n test c records) → answerOf c records ≡ answerAt n (length (m .before)) (m .r .offset)
-  missed-answers m = first-fails (checks c records) _ _ (m .first-to-fail)
+  missed-answers m = refused-by-the-first c records _ (m .first-to-fail)
 
   exactly : (j : ℕ) →
       (answerOf c records .number ≡ n → Found j (c .setting) 0 [] (recordsOf c records) (checks c records)) →

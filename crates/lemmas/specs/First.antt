@@ -1,8 +1,8 @@
 -- Lists of checks: what every one of them says, and the answer of the first that fails.
-use Prim.Native.Nat.{ℕ, zero, suc, _<_, suc-le-suc}
-use native.Mathlib.Nat.{zero-lt-suc, ne-of-gt}
+use Prim.Native.Nat.{ℕ, zero, suc, _<_}
+use native.Mathlib.Nat.{ne-of-gt}
 use native.Mathlib.Omega.{arith}
-use mathlib.Core.Bool.{Bool, true, false, cond, false≢true}
+use mathlib.Core.Bool.{Bool, true, false, cond}
 use mathlib.Core.List.{List, [], _∷_, _++_}
 use mathlib.Core.Path.{_≡_, refl, sym, ap, _∙_}
 use lib.ListN.{getD}
@@ -59,12 +59,21 @@ unfolding first
 first-passed [] a p = refl
 first-passed (k ∷ ks) a p = rw (p .0) (first-passed ks a (p .1))
 
-pub first-at : (ks : List Check) (a : Answer) (n : ℕ) → nth ks n .fails ≡ true → ((m : ℕ) → m < n → nth ks m .fails ≡ false) →
-    first ks a ≡ nth ks n .refusal
+-- In a list of checks, one that fails, and none before it does.
+pub record FailsFirst (ks : List Check) (k : Check) : Type 0 where
+  pub earlier : List Check
+  pub later : List Check
+  pub in-order : ks ≡ earlier ++ k ∷ later
+  pub pass : Every Passes earlier
+  pub fails : k .fails ≡ true
+
+pub first-fails : (ks : List Check) (k : Check) (a : Answer) → FailsFirst ks k → first ks a ≡ k .refusal
 unfolding first
-first-at [] a n p q = absurd (false≢true p)
-first-at (k ∷ ks) a zero p q = rw p
-first-at (k ∷ ks) a (suc n) p q = rw (q zero (zero-lt-suc n)) (first-at ks a n p (λ m h. q (suc m) (suc-le-suc h)))
+first-fails ks k a f =
+    ap (λ (l : List Check). first l a) (f .in-order)
+    ∙ first-append (f .earlier) (k ∷ f .later) a
+    ∙ first-passed (f .earlier) _ (f .pass)
+    ∙ rw (f .fails)
 
 -- A list whose checks have a number each answers 0 only where they all pass.
 pub zero-passes : (ks : List Check) (a : Answer) → Every Numbered ks → first ks a .number ≡ 0 → Every Passes ks

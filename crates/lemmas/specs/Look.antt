@@ -1,10 +1,11 @@
 -- What holds at every line of the table holds of every type: one induction over the search for a type, and what follows by it.
 use Prim.Native.Nat.{ℕ}
-use mathlib.Core.Bool.{Bool, true, false, _&&_, cond}
+use mathlib.Core.Bool.{Bool, true, false, not, _&&_, cond}
 use mathlib.Core.List.{List, [], _∷_}
+use mathlib.Core.Logic.{_≢_}
 use mathlib.Core.Path.{_≡_, refl, ap, subst}
 use borrow.Author.Tests.{eqb-true}
-use lib.Dec.{T, eqb}
+use lib.Dec.{T, T-not, eqb, eqb-refl}
 use Rattle.meaning.specs.Table.{Semantics, unnamed, Named, type, table, look, semantics}
 use Rattle.meaning.specs.Call.{Card, semanticsOn}
 use Rattle.meaning.proofs.Sound.{sound, allSound, table-sound}
@@ -12,6 +13,9 @@ use Rattle.meaning.proofs.Sound.{sound, allSound, table-sound}
 pub both : (a b : Bool) → T (a && b) → T a × T b
 both true b h = (tt, h)
 both false b h = absurd h
+
+pub differ : (m n : ℕ) → T (not (eqb m n)) → m ≢ n
+differ m n h e = T-not (eqb m n) h (subst (λ (k : ℕ). T (eqb m k)) e (eqb-refl m))
 
 -- A test of a type's number and of what it does, at each line of the table.
 unfoldable pub every : (ℕ → Semantics → Bool) → List Named → Bool

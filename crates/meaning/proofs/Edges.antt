@@ -1,4 +1,4 @@
--- The edges that document 01 marks P, together as one table, and one computed test of it.
+-- The edges that document 01 marks P, with those that document 02 sets beside them, together as one table, and one computed test of it.
 use Prim.Native.Nat.{ℕ, _+_, _-_, _*_, _^_}
 use mathlib.Core.List.{List, [], _∷_, _++_}
 use lib.Dec.{T}

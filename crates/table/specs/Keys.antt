@@ -6,11 +6,11 @@ use mathlib.Core.Bool.{Bool, true, false, not, _||_}
 use mathlib.Core.List.{List, [], _∷_, map}
 use mathlib.Core.Logic.{_⊎_, inl, inr, ⊎-elim}
 use mathlib.Core.Path.{_≡_, refl, sym, subst⁻¹}
-use lib.Dec.{T, T-not, eqb, eqb-refl, leb, leb→le}
+use lib.Dec.{T, eqb, leb, leb→le}
 use mir.Val.{hasKey}
 use types.Run.{OneOf, hit}
 use Rattle.meaning.specs.Table.{Semantics, unnamed, idle, loaders, push, operation, word, bytes, stack, of, table, semantics}
-use Rattle.lemmas.specs.Look.{every, found}
+use Rattle.lemmas.specs.Look.{differ, every, found}
 
 -- ---- an arm's keys
 
@@ -120,8 +120,7 @@ lower n arms t all p low = elim (unlisted (λ d. eqb (class d) (suc n)) arms t a
 
     below : T (not (eqb (class (semantics t)) (suc n))) → class (semantics t) ≤ n
     below h =
-        let other : class (semantics t) ≡ suc n → ⊥ =
-        λ e. T-not (eqb (class (semantics t)) (suc n)) h (subst⁻¹ (λ (m : ℕ). T (eqb m (suc n))) e (eqb-refl (suc n))) in
+        let other : class (semantics t) ≡ suc n → ⊥ = differ (class (semantics t)) (suc n) h in
         omega arith
 
 -- Where every type that does nothing or is the loader's is a key, it is not named.
@@ -131,4 +130,4 @@ not-named arms t all p low = elim (unlisted (λ d. eqb (class d) 0) arms t all p
     never : T (not (eqb (class (semantics t)) 0)) → ⊥
     never h =
         let none : class (semantics t) ≡ 0 = omega arith in
-        T-not (eqb (class (semantics t)) 0) h (subst⁻¹ (λ (m : ℕ). T (eqb m 0)) none tt)
+        differ (class (semantics t)) 0 h none
