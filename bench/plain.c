@@ -295,7 +295,7 @@ static inline void put_10_16_low_10(uint8_t *at, uint64_t x) {
     store32(at, (load32(at) & ~0x03ffffffu) | ((uint32_t)(x >> 2) & 0xffff) << 10 | ((uint32_t)(x >> 18) & 0x3ff));
 }
 
-static inline uint64_t pages(uint64_t x, uint64_t pc) { return (x >> 12) - (pc >> 12); }
+static inline uint64_t pages(uint64_t x, uint64_t pc) { return ((x + 0x800) >> 12) - (pc >> 12); }
 static inline uint64_t from_4g(uint64_t x, uint64_t pc) { return x - (pc & ~(uint64_t)0xffffffff); }
 
 static inline void add24(uint8_t *at, uint64_t x) {

@@ -101,7 +101,11 @@ typedef struct {
 
 /* Applies the records, in their order, to a section that is to stand at `address`. `gp` is the address that G, IE and GD count
    from. Accepted: every record is applied, each to the section as the earlier ones left it, and no other bit of the section is
-   changed. Refused: the section is as it came. Records and values are only read. */
+   changed. Refused: the section is as it came. Records and values are only read.
+
+   Types 71, 75, 87, 95 and 97, for pcalau12i, take the target's upper part after adding 800h to the target: with addi.d or a load,
+   which add the target's low 12 bits as a signed number, the pair lands on the target, wherever the distance from PC's page to that
+   upper part fits 32 bits signed. That it fits is not checked. */
 rofteluvi_answer rofteluvi_patch(uint8_t *section, size_t section_len,
                                  const uint8_t *records, size_t records_len,
                                  const uint8_t *values, size_t values_len,

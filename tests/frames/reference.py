@@ -1,12 +1,14 @@
 #!/usr/bin/env python3
-"""What the patch program must print, worked out from document 01's "Frames" and document 02's A1, and not from the code or its definitions.
+"""What the patch program must print, worked out from document 01's "Frames" and document 02's A1 and A2, and not from the code or its
+definitions.
 
     reference.py < INPUT > OUTPUT      the expected output
     reference.py large NAME            the input of a large case, on standard output
     reference.py large                 the names of the large cases
     reference.py stored NAME.in...     fails where the NAME.out beside it is not the expected output
 
-Of the relocation types it knows type 0, which does nothing, and type 66, of the paper's example: the tests of the frames need no other.
+Of the relocation types it knows type 0, which does nothing, type 66, of the paper's example, and types 71 and 72, of a pair: the tests of
+the frames need no other.
 """
 import sys
 
@@ -68,6 +70,26 @@ def word(b, at):
     return int.from_bytes(b[at : at + 8], "little")
 
 
+def with_field(kind, old, x, pc, refuse):
+    """The word with its field of S+A, at this PC."""
+    if kind == 71:  # the upper part, after adding 800h, less PC's: bits [31..12] go to [24..5]
+        upper = (x + 0x800) % 2**64 // 4096 - pc // 4096
+        return old & ~(0xFFFFF << 5) | (upper & 0xFFFFF) << 5
+    if kind == 72:  # bits [11..0] go to [21..10]
+        return old & ~(0xFFF << 10) | (x & 0xFFF) << 10
+    value = (x - pc) % 2**64
+    if value >= 2**63:
+        value -= 2**64
+    if value >= 2**27:
+        raise refuse(14)
+    if value < -(2**27):
+        raise refuse(18)
+    if value % 4:
+        raise refuse(15)
+    # bits [27..18] go to [9..0], bits [17..2] to [25..10]
+    return old & 0xFC000000 | (value >> 2 & 0xFFFF) << 10 | value >> 18 & 0x3FF
+
+
 def patch(address, gp, section, rows, records):
     """The section after the records, or a refusal."""
     for number, row in enumerate(rows):
@@ -79,29 +101,23 @@ def patch(address, gp, section, rows, records):
         kind, symbol = info % 2**32, info // 2**32
         if kind == 0:
             continue
-        assert kind == 66, "a type that this reference does not know"
+        assert kind in (66, 71, 72), "a type that this reference does not know"
+
+        def refuse(refusal):
+            return Refusal(refusal, number, offset)
+
         if symbol > len(rows):
-            raise Refusal(6, number, offset)
+            raise refuse(6)
         if symbol and not word(rows[symbol - 1], 0) & 1:
-            raise Refusal(7, number, offset)
+            raise refuse(7)
         s = word(rows[symbol - 1], 8) if symbol else 0
         if offset + 4 > len(section):
-            raise Refusal(8, number, offset)
+            raise refuse(8)
         pc = (address + offset) % 2**64
         if pc % 4:
-            raise Refusal(9, number, offset)
-        value = (s + addend - pc) % 2**64
-        if value >= 2**63:
-            value -= 2**64
-        if value >= 2**27:
-            raise Refusal(14, number, offset)
-        if value < -(2**27):
-            raise Refusal(18, number, offset)
-        if value % 4:
-            raise Refusal(15, number, offset)
-        # bits [27..18] go to [9..0], bits [17..2] to [25..10]
+            raise refuse(9)
         old = int.from_bytes(out[offset : offset + 4], "little")
-        new = old & 0xFC000000 | (value >> 2 & 0xFFFF) << 10 | value >> 18 & 0x3FF
+        new = with_field(kind, old, (s + addend) % 2**64, pc, refuse)
         out[offset : offset + 4] = new.to_bytes(4, "little")
     return bytes(out)
 

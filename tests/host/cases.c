@@ -117,6 +117,15 @@ static void absolute(uint32_t type, uint32_t word) {
     expect_word("S+A = 123456789abcdef0h", 0, word);
 }
 
+/* Type 71 from a PC to a target. */
+static void upper_part(const char *name, uint64_t pc, uint64_t target, uint32_t field) {
+    start(pc, 0x1a000004);
+    row_of_s(target);
+    record(0, 71, 1, 0);
+    expect(name, 0, 1);
+    expect_word(name, 0, 0x1a000004 | field << 5);
+}
+
 static void papers_edges(void) {
     start(0x1000, 0x50000000);
     row_of_s(0x1010);
@@ -190,11 +199,11 @@ static void papers_edges(void) {
     expect_word("-1, 7, 9 then 37", 0, 7);
     computed("10, 3 then 32", 10, 3, 32, 0, 7);
 
-    start(0x12340004, 0);
-    row_of_s(0x12345678);
-    record(0, 71, 1, 0);
-    expect("type 71", 0, 1);
-    expect_word("type 71", 0, 0xa0);
+    upper_part("type 71, 12345678h", 0x12340004, 0x12345678, 5);
+    upper_part("type 71, 123457ffh", 0x12340004, 0x123457ff, 5);
+    upper_part("type 71, 12345800h", 0x12340004, 0x12345800, 6);
+    upper_part("type 71, 2^64-801h", 0, UINT64_MAX - 0x800, 0xfffff);
+    upper_part("type 71, 2^64-800h", 0, UINT64_MAX - 0x7ff, 0);
 
     absolute(67, (uint32_t)0x9abcd << 5);
     absolute(68, (uint32_t)0xef0 << 10);
@@ -547,6 +556,46 @@ static void single_bits(void) {
             }
 }
 
+/* Where pcalau12i at a PC and addi.d after it lead, by the two words at the start of the section. */
+static uint64_t pair_leads(uint64_t pc) {
+    uint64_t upper = d.section[0] >> 5 | (uint64_t)d.section[1] << 3 | (uint64_t)d.section[2] << 11 | (uint64_t)(d.section[3] & 1) << 19;
+    uint64_t low = d.section[5] >> 2 | (uint64_t)(d.section[6] & 0x3f) << 6;
+    pc = (pc & ~(uint64_t)0xfff) + (upper << 12) - (upper >> 19 << 32);
+    return pc + low - (low >> 11 << 12);
+}
+
+/* A pair at a PC with a target: its type in the one word, LO12 of the target in the other. */
+static void pair(uint32_t type, uint64_t pc, uint64_t gp, uint64_t target) {
+    uint64_t value[6], way = ((target + 0x800) & ~(uint64_t)0xfff) - (pc & ~(uint64_t)0xfff);
+    start(pc, 0x1a000004);
+    draft_word(&d, 0x02c00084);
+    d.gp = gp;
+    for (int i = 0; i < 6; i++)
+        value[i] = type == 71 ? target : target - gp;
+    draft_row(&d, 63, value);
+    record(0, type, 1, 0);
+    record(4, 72, 0, target);
+    expect("a pair", 0, 2);
+    uint64_t past = pair_leads(pc) - target;
+    int fits = way + 0x80000000 < 0x100000000;
+    if (fits ? past != 0 : past == 0 || past % 0x100000000 != 0)
+        compare_fail(&before, "a pair does not lead where it should");
+}
+
+/* The types that take a target's upper part: a pair lands on its target where the way fits 32 bits, and else a multiple of 2^32 off. */
+static void pairs(void) {
+    static const uint32_t types[] = {71, 75, 87, 95, 97};
+    static const uint64_t lows[] = {0, 1, 0x7fe, 0x7ff, 0x800, 0x801, 0xffe, 0xfff};
+    static const int64_t pages[] = {-0x80002, -0x80001, -0x80000, -1, 0, 1, 0x7fffe, 0x7ffff, 0x80000};
+    for (size_t t = 0; t < sizeof types / sizeof *types; t++)
+        for (size_t l = 0; l < sizeof lows / sizeof *lows; l++)
+            for (size_t p = 0; p < sizeof pages / sizeof *pages; p++)
+                for (int at = 0; at < 4; at++) {
+                    uint64_t pc = at == 0 ? 0 : at == 1 ? 0xfffffffffffffffc : random_next() & ~(uint64_t)3;
+                    pair(types[t], pc, at == 2 ? 0 : random_next(), (pc & ~(uint64_t)0xfff) + (uint64_t)pages[p] * 4096 + lows[l]);
+                }
+}
+
 /* Each operation of the stack on numbers at the ends of their range, with all 64 bits of the result seen. */
 static void operations(void) {
     static const uint64_t numbers[] = {0, 1, 2, 5, 62, 63, 64, 65, 0x7fffffff, 0x80000000, 0xffffffff, 0x100000000,
@@ -642,6 +691,7 @@ void cases_systematic(void) {
     every_combination();
     around_powers();
     single_bits();
+    pairs();
     operations();
     shifts_and_carries();
     first_and_last_places();

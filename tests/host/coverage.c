@@ -11,9 +11,21 @@ static uint64_t numbers[NUMBERS];             /* calls by number */
 static uint64_t by_type[TYPES][NUMBERS];      /* records of accepted calls (number 0), refused records (4 to 15, 18) */
 static uint64_t back_by_type[TYPES][NUMBERS]; /* calls of read back */
 static uint64_t at_place[NUMBERS][2049];      /* calls by number and place */
+static uint64_t at_half_a_page[TYPES][2];     /* records of accepted calls whose target's low 12 bits are 7ffh, 800h */
 
 static unsigned row_of(uint32_t type) {
     return type < HIGHER ? type : HIGHER;
+}
+
+/* The types that take a target's upper part. */
+static int takes_upper_part(uint32_t type) {
+    return type == 71 || type == 75 || type == 87 || type == 95 || type == 97;
+}
+
+static void coverage_target(const struct call *call, const struct record *r) {
+    uint64_t low = reference_target(call, r) & 0xfff;
+    if (low == 0x7ff || low == 0x800)
+        at_half_a_page[r->type][low - 0x7ff]++;
 }
 
 void coverage_patch(const struct call *call, rofteluvi_answer answer) {
@@ -29,8 +41,12 @@ void coverage_patch(const struct call *call, rofteluvi_answer answer) {
         accepted_records += records;
         if (records > longest_accepted)
             longest_accepted = records;
-        for (size_t i = 0; i < records; i++)
-            by_type[row_of(reference_record(call->records, i).type)][0]++;
+        for (size_t i = 0; i < records; i++) {
+            struct record r = reference_record(call->records, i);
+            by_type[row_of(r.type)][0]++;
+            if (takes_upper_part(r.type))
+                coverage_target(call, &r);
+        }
     } else if (answer.number >= ROFTELUVI_UNKNOWN_TYPE && answer.number != ROFTELUVI_STACK_LEFT && answer.place < records) {
         by_type[row_of(reference_record(call->records, answer.place).type)][answer.number]++;
     }
@@ -110,6 +126,12 @@ unsigned coverage_missing(void) {
             }
         }
     }
+    for (uint32_t type = 0; type < TYPES; type++)
+        for (uint32_t half = 0; half < 2; half++)
+            if (takes_upper_part(type) && at_half_a_page[type][half] < 100) {
+                printf("not met: type %" PRIu32 " with a target's low bits of %" PRIx32 "h, 100 times\n", type, 0x7ff + half);
+                missing++;
+            }
     for (uint32_t number = 0; number < NUMBERS; number++) {
         if (number == BAD_FRAME)
             continue;

@@ -23,10 +23,16 @@ static int one_in(unsigned n) {
     return random_below(n) == 0;
 }
 
-/* A number that is likely to find a fault: small, near a power of two, near the section's address or GP, or anything. */
+/* A target whose low 12 bits are 7ffh or 800h: the last that leave its upper part as it is, and the first that do not. */
+static uint64_t at_half_a_page(void) {
+    return (random_next() & ~(uint64_t)0xfff) + 0x7ff + random_below(2);
+}
+
+/* A number that is likely to find a fault: small, near a power of two, near the section's address or GP, such that with GP it is a target
+   at half a page, or anything. */
 static uint64_t interesting(const struct draft *d) {
     uint64_t around;
-    switch (random_below(8)) {
+    switch (random_below(9)) {
     case 0: return random_below(70);
     case 1: return 0 - random_below(70);
     case 2: around = (uint64_t)1 << random_below(64); break;
@@ -34,6 +40,7 @@ static uint64_t interesting(const struct draft *d) {
     case 4: around = d->address; break;
     case 5: around = d->gp; break;
     case 6: return random_next() >> random_below(64);
+    case 7: return at_half_a_page() - d->gp;
     default: return random_next();
     }
     return around + random_below(17) - 8;
@@ -282,6 +289,8 @@ static void grow(struct draft *d, struct stack *stack) {
     uint32_t symbol = symbol_for(d, type);
     if (type >= 64 && type <= 66)
         addend = addend_for(d, offset, symbol, inside(type));
+    else if (type >= 67 && type <= 74 && one_in(4))
+        addend = at_half_a_page() - s_of(d, symbol);
     generate_try(d, stack, offset, type, symbol, addend);
 }
 

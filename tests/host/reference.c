@@ -159,6 +159,14 @@ static unsigned entries_pushed(uint32_t type) {
 static uint64_t without_low_12(uint64_t x) { return x - x % 4096; }
 static uint64_t without_low_32(uint64_t x) { return x - x % 4294967296; }
 
+/* The target of types 71 to 78, 87 to 90, 95 and 97: S+A, or GP with the value. */
+static uint64_t target(uint32_t type, uint64_t value, uint64_t a, uint64_t gp) {
+    return type <= 74 ? value + a : gp + value;
+}
+
+/* Its upper part, which is taken after adding 800h. */
+static uint64_t upper_part(uint64_t x) { return without_low_12(x + 0x800); }
+
 /* The number that a type computes from the value it uses (S, G, PLT, T, IE or GD), its addend, PC and GP. */
 static uint64_t formula(uint32_t type, uint64_t value, uint64_t a, uint64_t pc, uint64_t gp) {
     switch (type) {
@@ -179,22 +187,12 @@ static uint64_t formula(uint32_t type, uint64_t value, uint64_t a, uint64_t pc, 
         return value + a - pc;
     case 67: case 68: case 69: case 70:
         return value + a;
-    case 71:
-        return without_low_12(value + a) - without_low_12(pc);
-    case 72:
-        return value + a;
-    case 73: case 74:
-        return value + a - without_low_32(pc);
-    case 75:
-    case 87:
-    case 95: case 97:
-        return without_low_12(gp + value) - without_low_12(pc);
-    case 76:
-    case 88:
-        return gp + value;
-    case 77: case 78:
-    case 89: case 90:
-        return gp + value - without_low_32(pc);
+    case 71: case 75: case 87: case 95: case 97:
+        return upper_part(target(type, value, a, gp)) - without_low_12(pc);
+    case 72: case 76: case 88:
+        return target(type, value, a, gp);
+    case 73: case 74: case 77: case 78: case 89: case 90:
+        return target(type, value, a, gp) - without_low_32(pc);
     case 79: case 80: case 81: case 82:
     case 91: case 92: case 93: case 94:
     case 96: case 98:
@@ -293,6 +291,12 @@ static uint32_t look_up(const struct call *call, uint32_t symbol, enum value whi
         return ROFTELUVI_VALUE_ABSENT;
     *value = get(row + 8 * position, 8);
     return 0;
+}
+
+uint64_t reference_target(const struct call *call, const struct record *r) {
+    uint64_t value;
+    look_up(call, r->symbol, value_used(r->type), &value);
+    return target(r->type, value, r->addend, call->gp);
 }
 
 static int64_t take(struct stack *stack) {

@@ -40,6 +40,9 @@ rofteluvi_immediate reference_read_back(const uint8_t *section, size_t section_l
    after it, and *value the number that the record puts into the section, where it puts one. No section byte is looked at. */
 uint32_t reference_judge(const struct call *call, const struct record *r, struct stack *stack, int64_t *value);
 
+/* The target of a record of types 71, 75, 87, 95 or 97 that uses a value which is there: S+A, GP+G, GP+IE or GP+GD. */
+uint64_t reference_target(const struct call *call, const struct record *r);
+
 /* The record at an index, taken apart. */
 struct record reference_record(const uint8_t *records, size_t index);
 

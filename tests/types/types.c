@@ -10,11 +10,12 @@
 
 /* Numbers without a pattern. PC's low 12 and low 32 bits are above those of the sums, so that a difference of pages, or from PC with its
    low 32 bits cleared, is another than the plain one, by a borrow. Symbol 2 has the borrow reach 64_HI12: its S+A, GP+G and GP+IE have
-   PC's bits 51 to 32. */
+   PC's bits 51 to 32. Symbol 3 has the low 12 bits of S+A, GP+G, GP+IE and GP+GD at 800h, the first that make the upper part one more. */
 static const uint64_t ADDRESS = 0xae9ced66eba95dc4, GP = 0xc5994baa8ef476b6, A = 0xcb79b991ca155339, OLD = 0x97927b2ef35dc563;
-static const uint64_t VALUES[2][6] = {
+static const uint64_t VALUES[3][6] = {
     {0xcae45ea94d4c3245, 0xb492badb56473da9, 0x90b5b8c2943b3476, 0x3d09d0ca63d18b2d, 0x4bb573bc3c92c5db, 0x6e4c422e346d9cde},
     {0x1ca333d4949ecf46, 0xd453a1bb8b8e69de, 0xa4f4bdeef6d4dd3d, 0x4a9ac6a550a67166, 0x2e53a1bb89612c3b, 0x7925b0d1a9133259},
+    {0x5fb1d3681be4a4c7, 0xe83c67d50493114a, 0x19d86ef2ab70c593, 0xb7042ca98ef61d35, 0x7af59e8370c4214a, 0x36de481f95abc14a},
 };
 
 static struct draft d;
@@ -28,7 +29,7 @@ static void start(void) {
     d.section_len = 16;
     put_number(d.section, OLD, 8);
     put_number(d.section + 8, ~OLD, 8);
-    for (unsigned i = 0; i < 2; i++)
+    for (unsigned i = 0; i < 3; i++)
         draft_row(&d, 63, VALUES[i]);
 }
 
@@ -74,14 +75,15 @@ static void patch(uint32_t type, uint32_t number) {
 
 /* ---- That the numbers tell ---- */
 
-/* One of the 72 formulas that can be said: a value alone, with the addend or with GP; this whole, less PC, by pages, or far. */
+/* One of 90 formulas: a value alone, with the addend or with GP; this whole, less PC, by pages, by pages without the 800h, or far. */
 static uint64_t formula(unsigned i, uint32_t symbol, uint64_t addend, uint64_t pc) {
     uint64_t value = VALUES[symbol - 1][i % 6];
     uint64_t x = i / 6 % 3 == 0 ? value : i / 6 % 3 == 1 ? value + addend : GP + value;
     switch (i / 18) {
     case 0: return x;
     case 1: return x - pc;
-    case 2: return x / 4096 * 4096 - pc / 4096 * 4096;
+    case 2: return (x + 0x800) / 4096 * 4096 - pc / 4096 * 4096;
+    case 3: return x / 4096 * 4096 - pc / 4096 * 4096;
     default: return x - pc / 4294967296 * 4294967296;
     }
 }
@@ -99,7 +101,7 @@ static uint32_t absolute(uint32_t type) {
 static void tell(uint32_t type, uint32_t symbol, uint64_t addend) {
     uint8_t left[16];
     uint32_t as = absolute(type);
-    unsigned formulas = as == 2 || as == 51 || as == 56 || as == 69 || as == 70 ? 72 : 54, found = 0;
+    unsigned formulas = as == 2 || as == 51 || as == 56 || as == 69 || as == 70 ? 90 : 72, found = 0;
     memcpy(left, d.section, 16);
     for (unsigned i = 0; i < formulas; i++) {
         start();
@@ -169,6 +171,11 @@ static void direct(uint32_t type, uint32_t symbol, uint64_t addend) {
     end(type, 0);
     if (type < 64 || type > 66)
         tell(type, symbol, addend);
+}
+
+/* Whether the type takes the target's upper part, after adding 800h. */
+static int takes_800(uint32_t type) {
+    return type == 71 || type == 75 || type == 87 || type == 95 || type == 97;
 }
 
 /* S+A-PC is this distance at 0. Any other formula would be out of range. */
@@ -255,6 +262,7 @@ int main(void) {
     print_named("old", "List ℕ", (uint64_t[]){OLD, ~OLD}, 2);
     print_named("symbol1", "List ℕ", VALUES[0], 6);
     print_named("symbol2", "List ℕ", VALUES[1], 6);
+    print_named("symbol3", "List ℕ", VALUES[2], 6);
 
     printf("pub types : List Line\ntypes =\n");
     idle(0);
@@ -294,7 +302,7 @@ int main(void) {
     branch(65, -3298128);
     branch(66, -79072660);
     for (uint32_t type = 67; type <= 99; type++)
-        direct(type, type == 74 || type == 78 || type == 90 ? 2 : 1, A);
+        direct(type, type == 74 || type == 78 || type == 90 ? 2 : takes_800(type) ? 3 : 1, A);
     idle(100);
     printf("    []\n\n");
     return 0;

@@ -140,6 +140,13 @@ fn parts() {
     one(b"type 70 with 123456789abcdef0h", with(70, PARTS));
 }
 
+// Targets just below 2^64: from 800h below it on, the target after adding 800h wraps, and its upper part is that of address 0.
+fn upper_parts() {
+    one(b"type 71 with 2^64-801h", with(71, -0x801));
+    one(b"type 71 with 2^64-800h", with(71, -0x800));
+    one(b"type 71 with 2^64-1", with(71, -1));
+}
+
 // Sixteen pushes are not the document's: all find room, and only their being left is refused.
 fn lengths(pushes: &[u8])
     requires { ⌜ length (now pushes) ≡ 408 ⌝ }
@@ -187,6 +194,7 @@ fn main() {
     ranges();
     operations();
     parts();
+    upper_parts();
     lengths(pushes);
     more_of_the_stack();
     more_of_symbols();

@@ -1,4 +1,5 @@
--- A call on real bytes: what `named-bits-only`, `read-back-gives` and `below-is-18` ask can be met, and what they then say of it.
+-- Calls on real bytes: what `named-bits-only`, `read-back-gives`, `below-is-18` and `patched-pair-lands` ask can be met, and what they then
+-- say of them.
 use Prim.Native.Nat.{ℕ, _-_, _^_}
 use native.Mathlib.Omega.{arith}
 use mathlib.Core.List.{List, [], _∷_, _++_}
@@ -7,19 +8,20 @@ use mathlib.Core.Path.{_≡_, refl, ap}
 use lib.IntN.{pos}
 use lib.ListN.{getD}
 use Rattle.meaning.specs.Numbers.{number, bytesOf, cut}
-use Rattle.meaning.specs.Table.{Accepted, from_to_, any, stack, bits_⋯_to_⋯_, neg, table, look}
+use Rattle.meaning.specs.Table.{S+A, Accepted, from_to_, any, stack, bits_⋯_to_⋯_, neg, HI20, table, look}
 use Rattle.meaning.specs.Call.{Call, card64, Record, symbol0, recordsOf}
-use Rattle.meaning.specs.Field.{put}
+use Rattle.meaning.specs.Field.{put, bare}
 use Rattle.meaning.specs.Checks.{Answer, answer, answerAt, first, below, ofRecords, ofMasks, checks}
 use Rattle.meaning.specs.Patch.{call, answerOf, patched, sectionOf}
 use Rattle.meaning.specs.ReadBack.{readBackOf}
 use Rattle.meaning.specs.Order.{run}
 use Rattle.lemmas.specs.Bytes.{bytesOf-bytes}
 use Rattle.laws.specs.Replaced.{Bytes, bytes-append}
-use Rattle.laws.specs.Bits.{bitAt}
+use Rattle.laws.specs.Bits.{bitAt, wordAt}
 use Rattle.laws.specs.Section.{BitUntouched, named-bits-only}
 use Rattle.laws.specs.Order.{record-bytes}
 use Rattle.laws.specs.ReadBack.{WordUntouched, read-back-gives}
+use Rattle.laws.specs.Pair.{leads, UpperPart, patched-pair-lands}
 use Rattle.laws.specs.Refused.{Missed, below-is-18}
 
 -- addi.d $a0, $t0, 0; b 0; four bytes of data: at address 1000h
@@ -102,3 +104,39 @@ refused-low = refl
 -- So there is a record whose value is below its range, and no check before that one fails.
 pub missed-low : Missed 18 below at-1000 too-low
 missed-low = below-is-18 at-1000 too-low .0 (ap (λ (a : Answer). a .number) refused-low)
+
+-- ---- a pair that lands
+
+-- pcalau12i $a0, 0; addi.d $a0, $a0, 0: at address 12340004h, with the target 12345800h (71 and 72)
+pub pair : List ℕ
+pair = bytesOf 4 0x1a000004 ++ bytesOf 4 0x02c00084
+
+pub at-12340004 : Call
+at-12340004 = call pair [] 0x12340004 0
+
+pub two : List ℕ
+two = record-bytes 0 71 0x12345800 ++ record-bytes 4 72 0x12345800
+
+-- pcalau12i $a0, 6; addi.d $a0, $a0, -2048
+pub pair-patched : (answerOf at-12340004 two ≡ answer 0 2) × (sectionOf at-12340004 two pair ≡ bytesOf 4 0x1a0000c4 ++ bytesOf 4 0x02e00084)
+unfolding pair at-12340004 two record-bytes number bytesOf cut table look put first ofRecords ofMasks checks patched
+pair-patched = (refl, refl)
+
+-- The record of pcalau12i takes the upper part of its target; the one after it writes no byte of that word.
+pub upper : UpperPart card64 71
+unfolding table look
+upper = record { target = S+A; is = refl }
+
+pub after-upper : List Record
+after-upper = record-at 4 72 0x12345800 ∷ []
+
+pub none-after : WordUntouched (at-12340004 .setting) after-upper 0
+unfolding record-at after-upper
+none-after i from-0 below-4 = (inl (omega arith), tt)
+
+-- So the field that the call left, with the target's low 12 bits, leads to 12345800h.
+pub pair-example : leads 64 0x12340004 (bare HI20 (wordAt 0 (sectionOf at-12340004 two pair))) 0x800 ≡ 0x12345800
+unfolding pair at-12340004 two upper after-upper record-at record-bytes number bytesOf cut table look
+pair-example =
+    patched-pair-lands at-12340004 pair two refl [] after-upper (record-at 0 71 0x12345800) upper
+    (ap (λ (a : Answer). a .number) (pair-patched .0)) refl none-after (omega arith) (record { not-above = refl; not-below = refl })

@@ -154,7 +154,7 @@ signed-low w n (negsuc a) one most small =
     rw (m, le-ltb (2 ^ n - 1 - a) (2 ^ (n - 1)) high) (ap negsuc back)
 
 -- A signed number of n bits above k zeros.
-signed-back : (w k n : ℕ) (z : ℤ) → 1 ≤ n → n + k ≤ w → bitsOf w z % 2 ^ k ≡ 0 → mag z < 2 ^ (n + k - 1) →
+pub signed-back : (w k n : ℕ) (z : ℤ) → 1 ≤ n → n + k ≤ w → bitsOf w z % 2 ^ k ≡ 0 → mag z < 2 ^ (n + k - 1) →
     signed (n + k) (slice k n (bitsOf w z) * 2 ^ k) ≡ z
 signed-back w k n z one most h small =
     let l : 1 ≤ n + k = omega arith in
@@ -179,7 +179,7 @@ passes true e = tt
 passes false e = absurd (true≢false e)
 
 -- A signed range holds numbers of that many bits.
-signed-range : (m l h : ℕ) (z : ℤ) → suc l ≡ m → suc h ≡ m → ltZ (pos h) z ≡ false → ltZ z (negsuc l) ≡ false → mag z < m
+pub signed-range : (m l h : ℕ) (z : ℤ) → suc l ≡ m → suc h ≡ m → ltZ (pos h) z ≡ false → ltZ z (negsuc l) ≡ false → mag z < m
 signed-range m l h (pos a) e f up down = let g = ltb-false h a up in omega arith
 signed-range m l h (negsuc a) e f up down = let g = ltb-false l a down in omega arith
 

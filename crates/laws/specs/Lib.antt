@@ -10,6 +10,7 @@ pub mod Commute
 pub mod Order
 pub mod FieldBack
 pub mod ReadBack
+pub mod Pair
 pub mod Refused
 pub mod Types
 pub mod Examples

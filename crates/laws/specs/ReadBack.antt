@@ -180,7 +180,7 @@ module _ (c : Call) (s records : List ℕ) (size : c .setting .size ≡ length s
       (there .own .aligned)
 
   -- The bare field holds the bits of the value.
-  bits-read : bare parts (wordAt (r .offset) section) ≡ slice (lowest parts) (wide parts) (bitsOf (card .width) taken)
+  pub bits-read : bare parts (wordAt (r .offset) section) ≡ slice (lowest parts) (wide parts) (bitsOf (card .width) taken)
   bits-read =
       let well = sound-word card (r .type) source parts range type .0 in
       ap (bare parts) (there .held)

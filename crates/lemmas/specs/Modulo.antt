@@ -1,10 +1,13 @@
--- A sum or a difference modulo 2 ^ 64 has the low n bytes of the one modulo their width.
+-- A sum or a difference modulo 2 ^ 64 has the low n bytes of the one modulo their width; w bits read as signed have the same bits.
 use Prim.Native.Nat.{ℕ, suc, _+_, _-_, _*_, _/_, _%_, _^_, _≤_, _<_}
 use native.Mathlib.Nat.{add-mul-mod-self-right, div-lt-iff-lt-mul, sub-add-cancel, add-mul, suc-mul, mod-lt, div-add-mod'}
 use native.Mathlib.Omega.{arith}
-use mathlib.Core.Path.{_≡_, sym, ap, _∙_, subst}
+use mathlib.Core.Bool.{Bool, true, false, cond}
+use mathlib.Core.Path.{_≡_, refl, sym, ap, _∙_, subst}
+use lib.Dec.{ltb}
+use lib.IntN.{pos, negsuc}
 use lib.Pow.{pow-pos, pow-add, mod-mod-pow}
-use Rattle.meaning.specs.Numbers.{bytesOf, plus, minus}
+use Rattle.meaning.specs.Numbers.{bytesOf, plus, minus, signed, bitsOf}
 use Rattle.lemmas.specs.Bytes.{bytesOf-mod, bytesOf-mod-more}
 
 pub bytes-plus : (n a b : ℕ) → n ≤ 8 → bytesOf n (plus 64 a b) ≡ bytesOf n (plus (8 * n) a b)
@@ -15,14 +18,14 @@ bytes-plus n a b h =
 
 -- m times as many less b, modulo m, is m less b's remainder
 wrapped : (m many a b : ℕ) → 0 < m → b < many * m → (a + (many * m - b)) % m ≡ (a + (m - b % m)) % m
-wrapped m many a b pos h =
-    let q : b / m < many = div-lt-iff-lt-mul pos .1 h in
+wrapped m many a b some h =
+    let q : b / m < many = div-lt-iff-lt-mul some .1 h in
     let rest : ℕ = (many - suc (b / m)) * m in
     let all : many * m ≡ rest + suc (b / m) * m =
     ap (λ (x : ℕ). x * m) (sym (sub-add-cancel q)) ∙ add-mul (many - suc (b / m)) (suc (b / m)) m in
     let one : suc (b / m) * m ≡ b / m * m + m = suc-mul (b / m) m in
     let parts : b / m * m + b % m ≡ b = div-add-mod' b m in
-    let low : b % m < m = mod-lt b pos in
+    let low : b % m < m = mod-lt b some in
     let e : a + (many * m - b) ≡ a + (m - b % m) + rest = omega arith in
     ap (λ (x : ℕ). x % m) e ∙ add-mul-mod-self-right (a + (m - b % m)) (many - suc (b / m)) m
 
@@ -44,3 +47,10 @@ bytes-minus n a b h =
     (bytesOf-mod-more n (64 - 8 * n) (a + (2 ^ 64 - b % 2 ^ 64)))
     ∙ sym (bytesOf-mod n (a + (2 ^ 64 - b % 2 ^ 64)))
     ∙ ap (bytesOf n) low
+
+pub bits-signed : (w x : ℕ) → x < 2 ^ w → bitsOf w (signed w x) ≡ x
+bits-signed w x h = go (ltb x (2 ^ (w - 1)))
+  where
+    go : (b : Bool) → bitsOf w (cond b (pos x) (negsuc (2 ^ w - suc x))) ≡ x
+    go true = refl
+    go false = omega arith

@@ -34,6 +34,21 @@ refused records number place offset =
       left = bytesOf 8 0;
     }
 
+-- an accepted call of one record with this S and A, PC being 12340004h, that leaves this in a word 0
+pub from-12340004 : ℕ → ℕ → ℕ → ℕ → Case
+from-12340004 t s a left =
+    record {
+      section = bytesOf 8 0;
+      records = rela 4 t 1 a;
+      values = rowS s;
+      address = 0x12340000;
+      gp = 0;
+      number = 0;
+      place = 1;
+      offset = 0;
+      left = bytesOf 4 0 ++ bytesOf 4 left;
+    }
+
 pub edges : List Case
 edges =
     -- the frame case as a patch: address 1000h, one word 50000000h, S = 1010h, type 66 at 0
@@ -77,20 +92,15 @@ edges =
     refused (push (minus 5) ++ push 64 ++ rela 5 34 0 0 ++ rela 0 38 0 0) 12 2 5 ∷
     -- pushes 0, 7, 9 then 37 leave 9
     gives (push 0 ++ push 7 ++ push 9 ++ rela 0 37 0 0 ++ rela 0 38 0 0) 5 (bytesOf 4 (9 * 2 ^ 10)) ∷
-    -- type 71, S+A = 12345678h, PC = 12340004h, word 0 gives a0h
-    record {
-      section = bytesOf 8 0;
-      records = rela 4 71 1 0x78;
-      values = rowS 0x12345600;
-      address = 0x12340000;
-      gp = 0;
-      number = 0;
-      place = 1;
-      offset = 0;
-      left = bytesOf 4 0 ++ bytesOf 4 0xa0;
-    } ∷
+    -- type 71, S+A = 12345678h, PC = 12340004h, word 0 gives a0h; 123457ffh gives 5 as well, 12345800h gives 6
+    from-12340004 71 0x12345600 0x78 0xa0 ∷
+    from-12340004 71 0x12345000 0x7ff (5 * 2 ^ 5) ∷
+    from-12340004 71 0x12345000 0x800 (6 * 2 ^ 5) ∷
+    -- the absolute families stay, as do the 64 parts: 67 with 12345800h, 73 with 1fffff800h
+    from-12340004 67 0x12345000 0x800 (0x12345 * 2 ^ 5) ∷
+    from-12340004 73 0x1fffff000 0x800 (1 * 2 ^ 5) ∷
     []
 
 pub edges-hold : T (allHold edges)
-unfolding allHold holds edges gives refused same rela rowS push minus number bytesOf cut table look put first ofRecords ofMasks checks patched
+unfolding allHold holds edges gives refused from-12340004 same rela rowS push minus number bytesOf cut table look put first ofRecords ofMasks checks patched
 edges-hold = tt

@@ -101,6 +101,9 @@ symbol1 = 0xcae45ea94d4c3245 ∷ 0xb492badb56473da9 ∷ 0x90b5b8c2943b3476 ∷ 0
 abbrev pub symbol2 : List ℕ
 symbol2 = 0x1ca333d4949ecf46 ∷ 0xd453a1bb8b8e69de ∷ 0xa4f4bdeef6d4dd3d ∷ 0x4a9ac6a550a67166 ∷ 0x2e53a1bb89612c3b ∷ 0x7925b0d1a9133259 ∷ []
 
+abbrev pub symbol3 : List ℕ
+symbol3 = 0x5fb1d3681be4a4c7 ∷ 0xe83c67d50493114a ∷ 0x19d86ef2ab70c593 ∷ 0xb7042ca98ef61d35 ∷ 0x7af59e8370c4214a ∷ 0x36de481f95abc14a ∷ []
+
 pub types : List Line
 types =
     idle 0 0x97927b2ef35dc563 0x686d84d10ca23a9c ∷
@@ -162,11 +165,11 @@ types =
     direct 68 1 A 0x97927b2ef355f963 0x686d84d10c95fa9c ∷
     direct 69 1 A 0x97927b2ef3c30763 0x686d84d10dc3077c ∷
     direct 70 1 A 0x97927b2ef3659563 0x686d84d10ca5969c ∷
-    direct 71 1 A 0x97927b2ef2577063 0x686d84d10c57707c ∷
+    direct 71 3 A 0x97927b2ef3f4a163 0x686d84d10df4a17c ∷
     direct 72 1 A 0x97927b2ef355f963 0x686d84d10c95fa9c ∷
     direct 73 1 A 0x97927b2ef2255aa3 0x686d84d10c255abc ∷
     direct 74 2 A 0x97927b2ef34e6163 0x686d84d10c8e629c ∷
-    direct 75 1 A 0x97927b2ef3f324c3 0x686d84d10df324dc ∷
+    direct 75 3 A 0x97927b2ef34fbc83 0x686d84d10d4fbc9c ∷
     direct 76 1 A 0x97927b2ef3517d63 0x686d84d10c917e9c ∷
     direct 77 1 A 0x97927b2ef3e323e3 0x686d84d10de323fc ∷
     direct 78 2 A 0x97927b2ef37ad563 0x686d84d10cbad69c ∷
@@ -178,7 +181,7 @@ types =
     direct 84 1 A 0x97927b2ef36cb563 0x686d84d10cacb69c ∷
     direct 85 1 A 0x97927b2ef33a1943 0x686d84d10d3a195c ∷
     direct 86 1 A 0x97927b2ef34f4163 0x686d84d10c8f429c ∷
-    direct 87 1 A 0x97927b2ef3bfbbc3 0x686d84d10dbfbbdc ∷
+    direct 87 3 A 0x97927b2ef2281ea3 0x686d84d10c281ebc ∷
     direct 88 1 A 0x97927b2ef3724563 0x686d84d10cb2469c ∷
     direct 89 1 A 0x97927b2ef23a4003 0x686d84d10c3a401c ∷
     direct 90 2 A 0x97927b2ef3515563 0x686d84d10c91569c ∷
@@ -186,9 +189,9 @@ types =
     direct 92 1 A 0x97927b2ef3724563 0x686d84d10cb2469c ∷
     direct 93 1 A 0x97927b2ef3d7ecc3 0x686d84d10dd7ecdc ∷
     direct 94 1 A 0x97927b2ef3445163 0x686d84d10c84529c ∷
-    direct 95 1 A 0x97927b2ef3af7183 0x686d84d10daf719c ∷
+    direct 95 3 A 0x97927b2ef271ede3 0x686d84d10c71edfc ∷
     direct 96 1 A 0x97927b2ef3970e63 0x686d84d10d970e7c ∷
-    direct 97 1 A 0x97927b2ef3af7183 0x686d84d10daf719c ∷
+    direct 97 3 A 0x97927b2ef271ede3 0x686d84d10c71edfc ∷
     direct 98 1 A 0x97927b2ef3970e63 0x686d84d10d970e7c ∷
     direct 99 1 A 0x97927b2e2bb827ba 0x686d84d12bb827b2 ∷
     idle 100 0x97927b2ef35dc563 0x686d84d10ca23a9c ∷
@@ -202,7 +205,7 @@ caseOf l =
     record {
       section = words old;
       records = l .records;
-      values = words (63 ∷ symbol1) ++ words (63 ∷ symbol2);
+      values = words (63 ∷ symbol1) ++ words (63 ∷ symbol2) ++ words (63 ∷ symbol3);
       address = address;
       gp = gp;
       number = l .number;

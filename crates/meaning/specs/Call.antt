@@ -151,5 +151,5 @@ sum c r (with-GP v) = plus (c .card .width) (c .gp) (valueIn v (r .row))
 abbrev pub formula : Setting → Record → Formula → ℕ
 formula c r (whole x) = sum c r x
 formula c r (x -PC) = minus (c .card .width) (sum c r x) (PC c r)
-formula c r (pages x) = minus (c .card .width) (cleared 12 (sum c r x)) (cleared 12 (PC c r))
+formula c r (pages x) = minus (c .card .width) (cleared 12 (plus (c .card .width) (sum c r x) 0x800)) (cleared 12 (PC c r))
 formula c r (far x) = minus (c .card .width) (sum c r x) (cleared 32 (PC c r))

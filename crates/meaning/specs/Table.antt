@@ -1,4 +1,5 @@
--- Table 10 of the psABI 2.01 (document 000), as document 01 reads it: what each relocation type does, as data, line by line in its order.
+-- Table 10 of the psABI 2.01 (document 000), as documents 01 and 02 read it: what each relocation type does, as data, line by line in
+-- its order.
 use Prim.Native.Nat.{ℕ}
 use mathlib.Core.Bool.{cond}
 use mathlib.Core.List.{List, [], _∷_}
@@ -25,7 +26,7 @@ GP+IE = with-GP IE
 abbrev pub GP+GD : Sum
 GP+GD = with-GP GD
 
--- A formula on a sum X. `pages X`: X with its low 12 bits cleared less PC with its low 12 bits cleared.
+-- A formula on a sum X. `pages X`: X, after adding 800h, with its low 12 bits cleared, less PC with its low 12 bits cleared.
 -- `far X`: X less PC with its low 32 bits cleared.
 infix 80 _-PC
 pub data Formula : Type 0 where

@@ -1,14 +1,14 @@
--- The signed reading at 64 bits: it is the machine's, it and the bits are inverse to each other, and a shift to the right fits.
+-- The signed reading at 64 bits: it is the machine's, a number's bits read back are the number, and a shift to the right fits.
 -- Assumes nothing.
 use mathlib.Core.Path.{_≡_, refl, sym, ap, _∙_}
-use Prim.Native.Nat.{ℕ, suc, _-_, _^_, _<_}
+use Prim.Native.Nat.{ℕ, suc, _-_, _^_}
 use mathlib.Core.Bool.{Bool, true, false, cond}
 use lib.Dec.{ltb}
 use lib.IntN.{ℤ, pos, negsuc}
 use lib.Signed.{shrZ, mag-shr}
 use mir.Syntax.{w64}
 use mir.Val.{SFits, ofZ, toZ, sel}
-use mir.ValLaws.{toZ-ofZ, ofZ-toZ, sfits-le}
+use mir.ValLaws.{toZ-ofZ, sfits-le}
 use Rattle.meaning.specs.Numbers.{signed, bitsOf}
 
 -- ---- the meaning's reading is the machine's
@@ -24,13 +24,10 @@ pub ofZ-bits : (z : ℤ) → ofZ w64 z ≡ bitsOf 64 z
 ofZ-bits (pos n) = refl
 ofZ-bits (negsuc n) = refl
 
--- ---- inverse to each other
+-- ---- a number's bits read back
 
 pub signed-bits : (z : ℤ) → SFits w64 z → signed 64 (bitsOf 64 z) ≡ z
 signed-bits z f = sym (toZ-signed (bitsOf 64 z)) ∙ ap (toZ w64) (sym (ofZ-bits z)) ∙ toZ-ofZ w64 z f
-
-pub bits-signed : (x : ℕ) → x < 2 ^ 64 → bitsOf 64 (signed 64 x) ≡ x
-bits-signed x h = sym (ofZ-bits (signed 64 x)) ∙ ap (ofZ w64) (sym (toZ-signed x)) ∙ ofZ-toZ w64 x (record { fits = h })
 
 -- ---- a shift to the right fits
 

@@ -4,6 +4,7 @@ use table::Sum;
 ghost use mathlib.Core.Path.{_≡_};
 ghost use mathlib.Core.List.{[]};
 ghost use lib.ListN.{length};
+ghost use Rattle.meaning.specs.Numbers as N;
 ghost use Rattle.meaning.specs.Call as M;
 ghost use Rattle.meaning.specs.Call.{card64};
 ghost use Rattle.table.specs.Columns.{sumFrom, formulaFrom};
@@ -67,7 +68,15 @@ fn sum(rela: &[u8], row: &[u8], setting: Setting, of: Sum) -> u64
     }
 }
 
-// A sum itself, or its distance from PC, of its page from PC's page, or from PC with its low 32 bits cleared.
+// A target's upper part, taken after adding 800h: the instruction that goes with it adds the low 12 bits as a signed number, which from
+// 800h up leads back a page.
+fn upper_part(target: u64) -> u64
+    ensures { λ r. ⌜ r ≡ N.cleared 12 (N.plus 64 target 0x800) ⌝ }
+{
+    numbers::cleared(12, numbers::plus(target, 0x800))
+}
+
+// A sum itself, or its distance from PC, of its upper part from PC's page, or from PC with its low 32 bits cleared.
 pub fn formula(rela: &[u8], row: &[u8], setting: Setting, of: Sum, less: u32) -> u64
     requires { ⌜ Here (now rela) (now row) (of .value) ⌝ }
     ensures { λ r. ⌜ r ≡ M.formula (asSetting setting) (seen (now (rela .entry)) (now (row .entry))) (formulaFrom of less) ⌝ }
@@ -76,10 +85,7 @@ pub fn formula(rela: &[u8], row: &[u8], setting: Setting, of: Sum, less: u32) ->
     match less {
         0 => x,
         1 => numbers::minus(x, pc(rela, setting)),
-        2 => numbers::minus(
-            numbers::cleared(12, x),
-            numbers::cleared(12, pc(rela, setting)),
-        ),
+        2 => numbers::minus(upper_part(x), numbers::cleared(12, pc(rela, setting))),
         _ => numbers::minus(x, numbers::cleared(32, pc(rela, setting))),
     }
 }

@@ -67,7 +67,7 @@ pub const GP_PLUS_GD: Sum = Sum {
     with: GP,
 };
 
-// What is made of a sum: itself, less PC, its page less PC's, or less PC with its low 32 bits cleared.
+// What is made of a sum: itself, less PC, its upper part less PC's page, or less PC with its low 32 bits cleared.
 pub const WHOLE: u32 = 0;
 
 pub const LESS_PC: u32 = 1;

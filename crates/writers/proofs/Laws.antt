@@ -26,8 +26,7 @@ use Rattle.meaning.specs.Checks.{writes, outside}
 use Rattle.meaning.specs.Patch.{replaced, combined, effect}
 use Rattle.lemmas.specs.Operations.{refuses-nothing}
 use Rattle.lemmas.specs.Passed.{Passed, not-refused}
-use Rattle.lemmas.specs.Modulo.{bytes-plus, bytes-minus}
-use Rattle.numbers.specs.Laws.{bits-signed}
+use Rattle.lemmas.specs.Modulo.{bytes-plus, bytes-minus, bits-signed}
 use Rattle.table.specs.declared.Part.{Part}
 use Rattle.table.specs.Columns.{partFrom}
 use Rattle.table.specs.Keys.{Each, at-keys, same-keys, class}
@@ -97,7 +96,7 @@ module _ (parts : List T.Part) (rela section : List ℕ) where
 
   -- The value is a formula's.
   pub of-formula : {section′ : List ℕ} {x y : ℕ} → x < 2 ^ 64 → x ≡ y → section′ ≡ written x → section′ ≡ written (bitsOf 64 (signed 64 y))
-  of-formula {x = x} h e p = p ∙ ap written (sym (bits-signed x h) ∙ ap (λ (z : ℕ). bitsOf 64 (signed 64 z)) e)
+  of-formula {x = x} h e p = p ∙ ap written (sym (bits-signed 64 x h) ∙ ap (λ (z : ℕ). bitsOf 64 (signed 64 z)) e)
 
   -- It is taken from the stack.
   pub of-top : (entries : List ℤ) (height : ℕ) {section′ : List ℕ} {x : ℕ} {z : ℤ} → Popping rela entries height section → mag z < 2 ^ 63 →

@@ -1,5 +1,6 @@
 use mathlib.Core.Path.{ap, ap₂, _∙_}
-use Rattle.meaning.specs.Numbers.{minus, cleared}
+use Prim.Native.Nat.{ℕ}
+use Rattle.meaning.specs.Numbers.{plus, minus, cleared}
 use Rattle.records.proofs.Laws.{formula-last}
 use borrow.Author.Needs.{needs}
 use Rattle.records.proofs.formula.Statement.{statement}
@@ -14,14 +15,14 @@ pc-requires c κs = search needs
 minus-requires : tie.Need-minus-requires
 minus-requires c κs = search needs
 
-cleared-requires : tie.Need-cleared-requires
-cleared-requires c κs = search needs
+upper-part-requires : tie.Need-upper-part-requires
+upper-part-requires c κs = search needs
 
 pc-requires-2 : tie.Need-pc-requires-2
 pc-requires-2 c κs = search needs
 
-cleared-requires-2 : tie.Need-cleared-requires-2
-cleared-requires-2 c κs = search needs
+cleared-requires : tie.Need-cleared-requires
+cleared-requires c κs = search needs
 
 minus-requires-2 : tie.Need-minus-requires-2
 minus-requires-2 c κs = search needs
@@ -29,8 +30,8 @@ minus-requires-2 c κs = search needs
 pc-requires-3 : tie.Need-pc-requires-3
 pc-requires-3 c κs = search needs
 
-cleared-requires-3 : tie.Need-cleared-requires-3
-cleared-requires-3 c κs = search needs
+cleared-requires-2 : tie.Need-cleared-requires-2
+cleared-requires-2 c κs = search needs
 
 minus-requires-3 : tie.Need-minus-requires-3
 minus-requires-3 c κs = search needs
@@ -51,7 +52,9 @@ returns-3 c =
     let m = x .before in
     rw (m .match .keys3)
     (c .minus2 .ensures
-    ∙ ap₂ (minus 64) (x .cleared .ensures ∙ ap (cleared 12) (m .before .sum .ensures)) (low .cleared2 .ensures ∙ ap (cleared 12) (p .pc2 .ensures)))
+    ∙ ap₂ (minus 64)
+    (x .upper-part .ensures ∙ ap (λ (y : ℕ). cleared 12 (plus 64 y 0x800)) (m .before .sum .ensures))
+    (low .cleared .ensures ∙ ap (cleared 12) (p .pc2 .ensures)))
 
 returns-4 : tie.Need-returns-4
 returns-4 c =
@@ -60,7 +63,7 @@ returns-4 c =
     let m = p .before in
     let b = m .before .before .before .before in
     rw (formula-last (b .args .of) (b .args .less) (m .match .rest .0 .0 .1) (m .match .rest .0 .1) (m .match .rest .1))
-    (c .minus3 .ensures ∙ ap₂ (minus 64) (m .before .sum .ensures) (low .cleared3 .ensures ∙ ap (cleared 32) (p .pc3 .ensures)))
+    (c .minus3 .ensures ∙ ap₂ (minus 64) (m .before .sum .ensures) (low .cleared2 .ensures ∙ ap (cleared 32) (p .pc3 .ensures)))
 
 pub formula-spec : {M : Type 1} → statement M
 formula-spec =
@@ -69,12 +72,12 @@ formula-spec =
     sum-requires
     pc-requires
     minus-requires
-    cleared-requires
+    upper-part-requires
     pc-requires-2
-    cleared-requires-2
+    cleared-requires
     minus-requires-2
     pc-requires-3
-    cleared-requires-3
+    cleared-requires-2
     minus-requires-3
     returns
     returns-2
