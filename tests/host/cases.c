@@ -584,15 +584,14 @@ static void pair(uint32_t type, uint64_t pc, uint64_t gp, uint64_t target) {
 
 /* The types that take a target's upper part: a pair lands on its target where the way fits 32 bits, and else a multiple of 2^32 off. */
 static void pairs(void) {
-    static const uint32_t types[] = {71, 75, 87, 95, 97};
     static const uint64_t lows[] = {0, 1, 0x7fe, 0x7ff, 0x800, 0x801, 0xffe, 0xfff};
     static const int64_t pages[] = {-0x80002, -0x80001, -0x80000, -1, 0, 1, 0x7fffe, 0x7ffff, 0x80000};
-    for (size_t t = 0; t < sizeof types / sizeof *types; t++)
-        for (size_t l = 0; l < sizeof lows / sizeof *lows; l++)
+    for (uint32_t type = 0; type < 101; type++)
+        for (size_t l = 0; l < sizeof lows / sizeof *lows && reference_takes_upper_part(type); l++)
             for (size_t p = 0; p < sizeof pages / sizeof *pages; p++)
                 for (int at = 0; at < 4; at++) {
                     uint64_t pc = at == 0 ? 0 : at == 1 ? 0xfffffffffffffffc : random_next() & ~(uint64_t)3;
-                    pair(types[t], pc, at == 2 ? 0 : random_next(), (pc & ~(uint64_t)0xfff) + (uint64_t)pages[p] * 4096 + lows[l]);
+                    pair(type, pc, at == 2 ? 0 : random_next(), (pc & ~(uint64_t)0xfff) + (uint64_t)pages[p] * 4096 + lows[l]);
                 }
 }
 

@@ -17,11 +17,6 @@ static unsigned row_of(uint32_t type) {
     return type < HIGHER ? type : HIGHER;
 }
 
-/* The types that take a target's upper part. */
-static int takes_upper_part(uint32_t type) {
-    return type == 71 || type == 75 || type == 87 || type == 95 || type == 97;
-}
-
 static void coverage_target(const struct call *call, const struct record *r) {
     uint64_t low = reference_target(call, r) & 0xfff;
     if (low == 0x7ff || low == 0x800)
@@ -44,7 +39,7 @@ void coverage_patch(const struct call *call, rofteluvi_answer answer) {
         for (size_t i = 0; i < records; i++) {
             struct record r = reference_record(call->records, i);
             by_type[row_of(r.type)][0]++;
-            if (takes_upper_part(r.type))
+            if (reference_takes_upper_part(r.type))
                 coverage_target(call, &r);
         }
     } else if (answer.number >= ROFTELUVI_UNKNOWN_TYPE && answer.number != ROFTELUVI_STACK_LEFT && answer.place < records) {
@@ -128,7 +123,7 @@ unsigned coverage_missing(void) {
     }
     for (uint32_t type = 0; type < TYPES; type++)
         for (uint32_t half = 0; half < 2; half++)
-            if (takes_upper_part(type) && at_half_a_page[type][half] < 100) {
+            if (reference_takes_upper_part(type) && at_half_a_page[type][half] < 100) {
                 printf("not met: type %" PRIu32 " with a target's low bits of %" PRIx32 "h, 100 times\n", type, 0x7ff + half);
                 missing++;
             }

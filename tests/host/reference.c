@@ -167,6 +167,10 @@ static uint64_t target(uint32_t type, uint64_t value, uint64_t a, uint64_t gp) {
 /* Its upper part, which is taken after adding 800h. */
 static uint64_t upper_part(uint64_t x) { return without_low_12(x + 0x800); }
 
+int reference_takes_upper_part(uint32_t type) {
+    return type == 71 || type == 75 || type == 87 || type == 95 || type == 97;
+}
+
 /* The number that a type computes from the value it uses (S, G, PLT, T, IE or GD), its addend, PC and GP. */
 static uint64_t formula(uint32_t type, uint64_t value, uint64_t a, uint64_t pc, uint64_t gp) {
     switch (type) {

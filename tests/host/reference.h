@@ -40,7 +40,10 @@ rofteluvi_immediate reference_read_back(const uint8_t *section, size_t section_l
    after it, and *value the number that the record puts into the section, where it puts one. No section byte is looked at. */
 uint32_t reference_judge(const struct call *call, const struct record *r, struct stack *stack, int64_t *value);
 
-/* The target of a record of types 71, 75, 87, 95 or 97 that uses a value which is there: S+A, GP+G, GP+IE or GP+GD. */
+/* Whether the type takes a target's upper part: 71, 75, 87, 95 and 97. */
+int reference_takes_upper_part(uint32_t type);
+
+/* The target of a record of such a type, whose value is there: S+A, GP+G, GP+IE or GP+GD. */
 uint64_t reference_target(const struct call *call, const struct record *r);
 
 /* The record at an index, taken apart. */

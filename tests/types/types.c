@@ -173,11 +173,6 @@ static void direct(uint32_t type, uint32_t symbol, uint64_t addend) {
         tell(type, symbol, addend);
 }
 
-/* Whether the type takes the target's upper part, after adding 800h. */
-static int takes_800(uint32_t type) {
-    return type == 71 || type == 75 || type == 87 || type == 95 || type == 97;
-}
-
 /* S+A-PC is this distance at 0. Any other formula would be out of range. */
 static void branch(uint32_t type, int64_t distance) {
     direct(type, 1, (uint64_t)distance + ADDRESS - VALUES[0][0]);
@@ -302,7 +297,7 @@ int main(void) {
     branch(65, -3298128);
     branch(66, -79072660);
     for (uint32_t type = 67; type <= 99; type++)
-        direct(type, type == 74 || type == 78 || type == 90 ? 2 : takes_800(type) ? 3 : 1, A);
+        direct(type, type == 74 || type == 78 || type == 90 ? 2 : reference_takes_upper_part(type) ? 3 : 1, A);
     idle(100);
     printf("    []\n\n");
     return 0;

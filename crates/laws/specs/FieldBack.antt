@@ -1,6 +1,6 @@
 -- A field reads back what was put into it. Said once, over the description of fields: any parts that are sound, any range that they hold.
 use Prim.Native.Nat.{ℕ, suc, _+_, _-_, _*_, _/_, _%_, _^_, _<_, _≤_}
-use native.Mathlib.Nat.{add-zero, mul-one, mod-one, mod-lt, mod-eq-of-lt, pow-suc}
+use native.Mathlib.Nat.{add-zero, mul-one, mod-one, mod-lt, mod-eq-of-lt}
 use native.Mathlib.Omega.{arith}
 use mathlib.Core.Bool.{Bool, true, false, not, _&&_, _||_, true≢false}
 use mathlib.Core.List.{List, [], _∷_}
@@ -105,12 +105,13 @@ put-bare (p ∷ q ∷ ps) x w h =
     ∙ side-by-side (lowest (q ∷ ps)) (wide (q ∷ ps)) (low p) (many p) x end
 
 -- The bits below bit m are those of the remainder.
+pub low-mod : (k m x : ℕ) → k ≤ m → x % 2 ^ m % 2 ^ k ≡ x % 2 ^ k
+low-mod k m x h =
+    let e : m - k + k ≡ m = omega arith in
+    subst (λ (j : ℕ). x % 2 ^ j % 2 ^ k ≡ x % 2 ^ k) e (mod-mod-pow x (m - k) k)
+
 slice-mod : (k n m w : ℕ) → n + k ≤ m → slice k n (w % 2 ^ m) ≡ slice k n w
-slice-mod k n m w h =
-    let e : m - (n + k) + (n + k) ≡ m = omega arith in
-    sym (field (w % 2 ^ m) n k)
-    ∙ ap (λ (y : ℕ). y / 2 ^ k) (subst (λ (j : ℕ). w % 2 ^ j % 2 ^ (n + k) ≡ w % 2 ^ (n + k)) e (mod-mod-pow w (m - (n + k)) (n + k)))
-    ∙ field w n k
+slice-mod k n m w h = sym (field (w % 2 ^ m) n k) ∙ ap (λ (y : ℕ). y / 2 ^ k) (low-mod (n + k) m w h) ∙ field w n k
 
 -- The bare field is in the word's 32 bits.
 pub bare-mod : (parts : List Part) (w : ℕ) → T (soundParts parts) → bare parts (w % 2 ^ 32) ≡ bare parts w
@@ -130,20 +131,20 @@ restored k n x h = let e = mod-pow-add x n k in omega arith
 unsigned-back : (k n x : ℕ) → x % 2 ^ k ≡ 0 → x < 2 ^ (n + k) → slice k n x * 2 ^ k ≡ x
 unsigned-back k n x h l = restored k n x h ∙ mod-eq-of-lt l
 
--- A power of two is twice the one before it.
-twice : (n : ℕ) → 1 ≤ n → 2 ^ n ≡ 2 ^ (n - 1) * 2
-twice n h =
-    let e : n ≡ suc (n - 1) = omega arith in
-    ap (λ (m : ℕ). 2 ^ m) e ∙ pow-suc 2 (n - 1)
+-- A power of two is 2 ^ k times the one k before it.
+pub pow-split : (n k : ℕ) → k ≤ n → 2 ^ n ≡ 2 ^ (n - k) * 2 ^ k
+pow-split n k h =
+    let e : n ≡ n - k + k = omega arith in
+    ap (λ (j : ℕ). 2 ^ j) e ∙ pow-add 2 (n - k) k
 
 -- The low n of a number's w bits, where n bits hold it, read as signed, are the number.
 signed-low : (w n : ℕ) (z : ℤ) → 1 ≤ n → n ≤ w → mag z < 2 ^ (n - 1) → signed n (bitsOf w z % 2 ^ n) ≡ z
 signed-low w n (pos a) one most small =
-    let e = twice n one in
+    let e = pow-split n 1 one in
     let l : a < 2 ^ n = omega arith in
     rw (mod-eq-of-lt l, lt-ltb a (2 ^ (n - 1)) small)
 signed-low w n (negsuc a) one most small =
-    let e = twice n one in
+    let e = pow-split n 1 one in
     let l : a < 2 ^ n = omega arith in
     let d : w - n + n ≡ w = omega arith in
     let c : 2 ^ w - suc a ≡ 2 ^ w - 1 - a = omega arith in
@@ -187,8 +188,7 @@ signed-range m l h (negsuc a) e f up down = let g = ltb-false l a down in omega 
 two-zeros : (w : ℕ) (z : ℤ) → 2 ≤ w → natAbs z % 4 ≡ 0 → bitsOf w z % 2 ^ 2 ≡ 0
 two-zeros w (pos a) two h = h
 two-zeros w (negsuc a) two h =
-    let e : w ≡ w - 2 + 2 = omega arith in
-    let four : 2 ^ w ≡ 2 ^ (w - 2) * 4 = ap (λ (j : ℕ). 2 ^ j) e ∙ pow-add 2 (w - 2) 2 in
+    let four = pow-split w 2 two in
     omega arith
 
 -- No zeros below are asked for where the field begins at bit 0.

@@ -10,9 +10,9 @@ pub mod Commute
 pub mod Order
 pub mod FieldBack
 pub mod ReadBack
-pub mod Pair
 pub mod Refused
 pub mod Types
+pub mod Pair
 pub mod Examples
 pub mod Unique
 pub mod Program

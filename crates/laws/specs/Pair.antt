@@ -3,7 +3,7 @@
 use Prim.Native.Nat.{ℕ, suc, _+_, _-_, _*_, _/_, _%_, _^_, _<_, _≤_}
 use native.Mathlib.Nat.{div-one, mod-lt, mod-eq-of-lt, mod-eq-sub-mod, mod-add-mod, add-mod-mod, add-mod-right, mul-mod-left}
 use native.Mathlib.Omega.{arith}
-use mathlib.Core.Bool.{Bool, true, false, cond, not, _&&_, _||_}
+use mathlib.Core.Bool.{Bool, true, false, cond, not, _||_}
 use mathlib.Core.List.{List, [], _∷_, _++_}
 use mathlib.Core.Logic.{inl, inr, _↔_}
 use mathlib.Core.Path.{_≡_, refl, sym, ap, _∙_, subst, subst⁻¹}
@@ -11,7 +11,7 @@ use borrow.Author.Tests.{ltb-true, ltb-false}
 use lib.Dec.{T, ltb}
 use lib.IntN.{ℤ, pos, negsuc}
 use lib.ListN.{length}
-use lib.Pow.{pow-pos, pow-add, suc-ones, mod-mod-pow}
+use lib.Pow.{pow-pos, suc-ones}
 use lib.Signed.{ltZ, mag}
 use mir.Val.{hasKey}
 use types.Run.{OneOf, hit}
@@ -22,12 +22,13 @@ use Rattle.meaning.specs.Field.{slice, wide, lowest, bare}
 use Rattle.meaning.specs.Call.{Card, semanticsOn, Setting, Call, Record, recordsOf, valueIn, PC, sum, formula}
 use Rattle.meaning.specs.Checks.{ofWord}
 use Rattle.meaning.specs.Patch.{answerOf, sectionOf}
-use Rattle.lemmas.specs.Look.{both, every, found, on-card}
+use Rattle.lemmas.specs.Look.{every, found, on-card}
 use Rattle.lemmas.specs.Modulo.{bits-signed}
 use Rattle.laws.specs.Bits.{wordAt}
 use Rattle.laws.specs.Order.{implied}
-use Rattle.laws.specs.FieldBack.{signed-range, signed-back}
+use Rattle.laws.specs.FieldBack.{low-mod, pow-split, signed-range, signed-back}
 use Rattle.laws.specs.ReadBack.{WordUntouched, bits-read}
+use Rattle.laws.specs.Types.{named-passes, numbered}
 
 -- A signed number of n bits is -2^(n-1) to 2^(n-1)-1.
 pub record FitsSigned (n : ℕ) (z : ℤ) : Type 0 where
@@ -53,10 +54,6 @@ plus-minus w a b h =
     ∙ add-mod-right a m
     ∙ mod-eq-of-lt h
 
--- A width of 12 bits or more has whole pages.
-whole-pages : (w : ℕ) → 12 ≤ w → 2 ^ w ≡ 2 ^ (w - 12) * 4096
-whole-pages w h = let e : w ≡ w - 12 + 12 = omega arith in ap (λ (j : ℕ). 2 ^ j) e ∙ pow-add 2 (w - 12) 12
-
 -- The low 12 bits, as signed, added to the upper part: from 800h up they count back from the page after.
 low-added : (w x : ℕ) → 12 ≤ w → x < 2 ^ w → plus w (cleared 12 (plus w x 0x800)) (bitsOf w (signed 12 (x % 4096))) ≡ x
 low-added w x fits h = go (ltb (x % 4096) 2048) (ltb (x + 2048) (2 ^ w)) refl refl
@@ -64,18 +61,18 @@ low-added w x fits h = go (ltb (x % 4096) 2048) (ltb (x + 2048) (2 ^ w)) refl re
     go : (b d : Bool) → ltb (x % 4096) 2048 ≡ b → ltb (x + 2048) (2 ^ w) ≡ d →
         plus w (cleared 12 (plus w x 0x800)) (bitsOf w (cond b (pos (x % 4096)) (negsuc (4096 - suc (x % 4096))))) ≡ x
     go true true e f =
-        let p = whole-pages w fits in
+        let p = pow-split w 12 fits in
         let low = ltb-true (x % 4096) 2048 e in
         let up : (x + 2048) % 2 ^ w ≡ x + 2048 = mod-eq-of-lt (ltb-true (x + 2048) (2 ^ w) f) in
         let q : (x + 2048) / 4096 * 4096 + x % 4096 ≡ x = omega arith in
         ap (λ (y : ℕ). (y / 4096 * 4096 + x % 4096) % 2 ^ w) up ∙ ap (λ (y : ℕ). y % 2 ^ w) q ∙ mod-eq-of-lt h
     go true false e f =
-        let p = whole-pages w fits in
+        let p = pow-split w 12 fits in
         let low = ltb-true (x % 4096) 2048 e in
         let past = ltb-false (x + 2048) (2 ^ w) f in
         absurd (omega arith)
     go false true e f =
-        let p = whole-pages w fits in
+        let p = pow-split w 12 fits in
         let low = ltb-false (x % 4096) 2048 e in
         let up : (x + 2048) % 2 ^ w ≡ x + 2048 = mod-eq-of-lt (ltb-true (x + 2048) (2 ^ w) f) in
         let q : (x + 2048) / 4096 * 4096 + (2 ^ w - suc (4096 - suc (x % 4096))) ≡ x + 2 ^ w = omega arith in
@@ -84,7 +81,7 @@ low-added w x fits h = go (ltb (x % 4096) 2048) (ltb (x + 2048) (2 ^ w)) refl re
         ∙ add-mod-right x (2 ^ w)
         ∙ mod-eq-of-lt h
     go false false e f =
-        let p = whole-pages w fits in
+        let p = pow-split w 12 fits in
         let low = ltb-false (x % 4096) 2048 e in
         let past = ltb-false (x + 2048) (2 ^ w) f in
         let less : x + 2048 - 2 ^ w < 2 ^ w = omega arith in
@@ -97,15 +94,12 @@ low-added w x fits h = go (ltb (x % 4096) 2048) (ltb (x + 2048) (2 ^ w)) refl re
 -- A difference of pages is whole pages.
 pages-apart : (w a b : ℕ) → 12 ≤ w → minus w (cleared 12 a) (cleared 12 b) % 2 ^ 12 ≡ 0
 pages-apart w a b h =
-    let p = whole-pages w h in
-    let e : w - 12 + 12 ≡ w = omega arith in
+    let p = pow-split w 12 h in
     let d : ℕ = cleared 12 b % 2 ^ w in
-    let low : (x : ℕ) → x % 2 ^ w % 2 ^ 12 ≡ x % 2 ^ 12 =
-    λ x. subst (λ (j : ℕ). x % 2 ^ j % 2 ^ 12 ≡ x % 2 ^ 12) e (mod-mod-pow x (w - 12) 12) in
-    let none : d % 4096 ≡ 0 = low (cleared 12 b) ∙ mul-mod-left (b / 4096) 4096 in
+    let none : d % 4096 ≡ 0 = low-mod 12 w (cleared 12 b) h ∙ mul-mod-left (b / 4096) 4096 in
     let less : d < 2 ^ w = mod-lt (cleared 12 b) (pow-pos w) in
-    let sum : (cleared 12 a + (2 ^ w - d)) % 4096 ≡ 0 = omega arith in
-    low (cleared 12 a + (2 ^ w - d)) ∙ sum
+    let whole : (cleared 12 a + (2 ^ w - d)) % 4096 ≡ 0 = omega arith in
+    low-mod 12 w (cleared 12 a + (2 ^ w - d)) h ∙ whole
 
 -- ---- the theorem
 
@@ -169,29 +163,10 @@ wraps (only v) = false
 wraps (with-A v) = true
 wraps (with-GP v) = true
 
--- Each line of the table that puts an upper part is one of the five, and its target is such a sum.
-of-five : (card : Card) (t : ℕ) → T (puts (λ x. true) (semanticsOn card t)) → T (hasKey five t && puts wraps (semanticsOn card t))
-unfolding every table puts ofPages wraps
-of-five card t =
-    let Of : Semantics → Type 0 = λ d. T (puts (λ x. true) d) → T (hasKey five t && puts wraps d) in
-    let test : ℕ → Semantics → Bool = λ n d. not (puts (λ x. true) d) || (hasKey five n && puts wraps d) in
-    on-card Of card t (found Of test table t tt (λ d. implied (puts (λ x. true) d) (hasKey five t && puts wraps d)) (λ p. absurd p)) (λ p. absurd p)
-
 module _ (card : Card) (t : ℕ) where
   passes : UpperPart card t → T (puts (λ x. true) (semanticsOn card t))
   unfolding puts ofPages
   passes u = subst⁻¹ (λ (d : Semantics). T (puts (λ x. true) d)) (u .is) tt
-
-  known : UpperPart card t → T (hasKey five t) × T (puts wraps (semanticsOn card t))
-  known u = both (hasKey five t) (puts wraps (semanticsOn card t)) (of-five card t (passes u))
-
-  named : UpperPart card t → T (card .names t)
-  unfolding puts
-  named u = go (card .names t) (passes u)
-    where
-      go : (b : Bool) → T (puts (λ x. true) (cond b (semantics t) unnamed)) → T b
-      go true h = tt
-      go false h = absurd h
 
   line : (k : ℕ) (x : Sum) → T (card .names t) → t ≡ k → semantics k ≡ word (of (pages x)) HI20 any → UpperPart card t
   line k x n e at-k = record { target = x; is = go (card .names t) n ∙ ap semantics e ∙ at-k }
@@ -202,8 +177,12 @@ module _ (card : Card) (t : ℕ) where
 
   -- They are exactly 71, 75, 87, 95 and 97, where the card names them.
   pub upper-part-types : UpperPart card t ↔ (T (card .names t) × OneOf (71 ∷ 75 ∷ 87 ∷ 95 ∷ 97 ∷ []) t)
-  unfolding table look
-  upper-part-types = (λ u. (named u, hit five t (known u .0)), λ h. go (h .0) (h .1))
+  unfolding every table look puts ofPages
+  upper-part-types =
+      let (there, back) = named-passes (puts (λ x. true)) refl card t in (
+        (λ u. (there (passes u) .0, hit five t (numbered (puts (λ x. true)) refl (hasKey five) tt t (there (passes u) .1)))),
+        (λ h. go (h .0) (h .1)),
+      )
     where
       go : T (card .names t) → OneOf five t → UpperPart card t
       go n (inl e) = line 71 S+A n e refl
@@ -212,11 +191,15 @@ module _ (card : Card) (t : ℕ) where
       go n (inr (inr (inr (inl e)))) = line 95 GP+GD n e refl
       go n (inr (inr (inr (inr e)))) = line 97 GP+GD n e refl
 
--- So their targets are below 2 ^ width.
+-- Their targets are sums with A or with GP, and so below 2 ^ width.
 target-below : (c : Setting) (r : Record) (u : UpperPart (c .card) (r .type)) → sum c r (u .target) < 2 ^ c .card .width
-unfolding puts ofPages wraps
+unfolding every table puts ofPages wraps
 target-below c r u =
-    go (u .target) (subst (λ (d : Semantics). T (puts wraps d)) (u .is) (known (c .card) (r .type) u .1))
+    let Wraps : Semantics → Type 0 = λ d. T (puts (λ x. true) d) → T (puts wraps d) in
+    let line-wraps : ℕ → Semantics → Bool = λ n d. not (puts (λ x. true) d) || puts wraps d in
+    let in-table = found Wraps line-wraps table (r .type) tt (λ d. implied (puts (λ x. true) d) (puts wraps d)) (λ p. absurd p) in
+    go (u .target)
+    (subst (λ (d : Semantics). T (puts wraps d)) (u .is) (on-card Wraps (c .card) (r .type) in-table (λ p. absurd p) (passes (c .card) (r .type) u)))
   where
     go : (x : Sum) → T (wraps x) → sum c r x < 2 ^ c .card .width
     go (only v) h = absurd h

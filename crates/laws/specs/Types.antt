@@ -28,14 +28,14 @@ pub record WordType (card : Card) (Such : Accepted → Type 0) (t : ℕ) : Type 
 abbrev accepts : (Accepted → Bool) → Semantics → Bool
 accepts test does = ofWord does (λ source range. test range)
 
--- On a card, the types that pass are those of the table that it names.
-named-accepts : (test : Accepted → Bool) (card : Card) (t : ℕ) →
-    T (accepts test (semanticsOn card t)) ↔ (T (card .names t) × T (accepts test (semantics t)))
-named-accepts test card t = go (card .names t)
+-- On a card, the types that pass a test which `unnamed` does not are those of the table that it names.
+pub named-passes : (test : Semantics → Bool) → test unnamed ≡ false → (card : Card) (t : ℕ) →
+    T (test (semanticsOn card t)) ↔ (T (card .names t) × T (test (semantics t)))
+named-passes test none card t = go (card .names t)
   where
-    go : (b : Bool) → T (accepts test (cond b (semantics t) unnamed)) ↔ (T b × T (accepts test (semantics t)))
+    go : (b : Bool) → T (test (cond b (semantics t) unnamed)) ↔ (T b × T (test (semantics t)))
     go true = (λ h. (tt, h), λ h. h .1)
-    go false = (λ h. absurd h, λ h. absurd (h .0))
+    go false = (λ h. absurd (subst T none h), λ h. absurd (h .0))
 
 module _ (Such : Accepted → Type 0) (test : Accepted → Bool) (card : Card) (t : ℕ) where
   tested : ((range : Accepted) → Such range → T (test range)) → WordType card Such t → T (accepts test (semanticsOn card t))
@@ -55,15 +55,15 @@ module _ (Such : Accepted → Type 0) (test : Accepted → Bool) (card : Card) (
   such-exactly : ((range : Accepted) → Such range → T (test range)) → ((range : Accepted) → T (test range) → Such range) →
       WordType card Such t ↔ (T (card .names t) × T (accepts test (semantics t)))
   such-exactly passes such =
-      let (there, back) = named-accepts test card t in
+      let (there, back) = named-passes (accepts test) refl card t in
       (λ w. there (tested passes w), λ h. passing such (semanticsOn card t) refl (back h))
 
 -- Where each line that passes has a listed number, so has each type that passes.
-numbered : (test : Accepted → Bool) (listed : ℕ → Bool) → T (every (λ n does. not (accepts test does) || listed n) table) → (t : ℕ) →
-    T (accepts test (semantics t)) → T (listed t)
-numbered test listed h t =
-    found (λ d. T (accepts test d) → T (listed t)) (λ n does. not (accepts test does) || listed n) table t h
-    (λ does. implied (accepts test does) (listed t)) (λ p. absurd p)
+pub numbered : (test : Semantics → Bool) → test unnamed ≡ false → (listed : ℕ → Bool) → T (every (λ n does. not (test does) || listed n) table) →
+    (t : ℕ) → T (test (semantics t)) → T (listed t)
+numbered test none listed h t =
+    found (λ d. T (test d) → T (listed t)) (λ n does. not (test does) || listed n) table t h (λ does. implied (test does) (listed t))
+    (λ p. absurd (subst T none p))
 
 -- A test of n numbers from k up.
 allFrom : (ℕ → Bool) → ℕ → ℕ → Bool
@@ -102,7 +102,7 @@ checked-types card t =
       (λ w. (
         there w .0,
         ⊎-elim (λ h. inl (in-span 38 46 t h)) (λ h. inr (in-span 64 66 t h))
-            (either (span 38 46 t) (span 64 66 t) (numbered checked listed tt t (there w .1))),
+            (either (span 38 46 t) (span 64 66 t) (numbered (accepts checked) refl listed tt t (there w .1))),
       )),
       (λ h. back (h .0, ⊎-elim (λ i. all-from accepted 38 9 t tt (i .0) (omega arith)) (λ i. all-from accepted 64 3 t tt (i .0) (omega arith)) (h .1))),
     )
@@ -113,6 +113,6 @@ unfolding allFrom every table look
 bare-types card t =
     let bare : Accepted → Bool = λ range. not (checked range) in
     let (there, back) = such-exactly (λ range. range ≡ any) bare card t (λ range e. subst⁻¹ (λ (a : Accepted). T (bare a)) e tt) is-any in (
-      (λ w. (there w .0, in-span 67 98 t (numbered bare (span 67 98) tt t (there w .1)))),
+      (λ w. (there w .0, in-span 67 98 t (numbered (accepts bare) refl (span 67 98) tt t (there w .1)))),
       (λ h. back (h .0, all-from (λ n. accepts bare (semantics n)) 67 32 t tt (h .1 .0) (omega arith))),
     )
