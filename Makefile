@@ -3,8 +3,9 @@
 #   make                 the archive and the program `patcher` (proved and compiled by the Rattle kit, rt)
 #   make test            the archive against an independent C implementation, the program on the frames of tests/frames, and the lines
 #                        of crates/meaning/proofs/Types.antt against those that `make types` prints
-#   make example         builds and runs host/example.c
-#   make bench           instructions per record, code size and stack, beside plain C; fails where a mix is above 1.1 times plain C
+#   make example         builds and runs host/example.c and host/address.c
+#   make bench           instructions per record and per word of a run, code size and stack, beside plain C; fails where a mix is above
+#                        1.1 times plain C, or a word of a run above 25
 #   make bench-program   instructions of the program on full buffers, beside plain C that does the same
 #   make install         header, archive, program (as rofteluvi-patcher) and pkg-config file, under PREFIX (and DESTDIR)
 #   make clean           removes what the C side built; what rt proved and compiled stays (make distclean removes it too)
@@ -50,7 +51,7 @@ TEST_C  := $(wildcard tests/host/*.c)
 TEST_H  := $(wildcard tests/host/*.h) include/rofteluvi.h
 TYPES_C := tests/types/types.c tests/host/reference.c tests/host/draft.c
 # plain.c under the archive's names, to be tested in its place
-AS_ARCHIVE := -Dplain_patch=rofteluvi_patch -Dplain_read_back=rofteluvi_read_back
+AS_ARCHIVE := -Dplain_patch=rofteluvi_patch -Dplain_read_back=rofteluvi_read_back -Dplain_run=rofteluvi_run
 
 .PHONY: all test test-host test-frames types test-types test-plain test-sanitize test-broken example bench bench-program install clean distclean compiler FORCE
 .DELETE_ON_ERROR:
@@ -60,7 +61,7 @@ all: $(ARCHIVE) $(PROGRAM)
 # rt proves again only what has changed, up to two crates at a time. Two calls of rt never run beside each other, since both would write to
 # target/. Under `make -j2` the archive is tested while the program is proved.
 $(LIBRARY): FORCE
-	$(RT) check back patch output
+	$(RT) check back patch executor output
 	$(RT) staticlib rofteluvi
 
 $(PROGRAM): $(LIBRARY)
@@ -119,11 +120,12 @@ test-broken: | compiler $(OUT)
 
 # ---- Example ----
 
-$(OUT)/example: host/example.c include/rofteluvi.h $(ARCHIVE) $(OUT)/linked-with | compiler $(OUT)
-	$(COMPILE) host/example.c $(ARCHIVE) $(LINK) -o $@
+$(OUT)/example $(OUT)/address: $(OUT)/%: host/%.c include/rofteluvi.h $(ARCHIVE) $(OUT)/linked-with | compiler $(OUT)
+	$(COMPILE) $< $(ARCHIVE) $(LINK) -o $@
 
-example: $(OUT)/example
+example: $(OUT)/example $(OUT)/address
 	$(RUN) $(OUT)/example
+	$(RUN) $(OUT)/address
 
 # ---- Benchmark ----
 

@@ -1,9 +1,10 @@
-/* Instruction counts and stack use of rofteluvi_patch beside plain C, on calls that are all accepted.
+/* Instruction counts of rofteluvi_patch and rofteluvi_run, and stack use of rofteluvi_patch, beside plain C, on calls that are all
+   accepted.
 
        bench list      prints a line for each region, in the order in which `bench count` runs them
        bench count     runs each region once, between count_on and count_off inside counted, for a counter of instructions
        bench stack     prints the bytes of stack that each function touches at most
-   Both functions must leave the same section, or it ends with status 1. */
+   Plain C must leave the same section, and the same registers, or it ends with status 1. */
 #define _XOPEN_SOURCE 700
 #include "counted.h"
 #include "plain.h"
@@ -16,6 +17,7 @@
 #include <ucontext.h>
 
 typedef rofteluvi_answer patch_function(uint8_t *, size_t, const uint8_t *, size_t, const uint8_t *, size_t, uint64_t, uint64_t);
+typedef rofteluvi_ran run_function(const uint8_t *, size_t, uint64_t, uint64_t *);
 
 /* The cost of the call itself, which is taken off the others. */
 __attribute__((noinline)) static rofteluvi_answer nothing(uint8_t *section, size_t section_len, const uint8_t *records,
@@ -25,6 +27,13 @@ __attribute__((noinline)) static rofteluvi_answer nothing(uint8_t *section, size
     (void)section, (void)section_len, (void)records, (void)records_len, (void)values, (void)values_len, (void)address, (void)gp;
     __asm__ volatile("");
     return a;
+}
+
+__attribute__((noinline)) static rofteluvi_ran run_nothing(const uint8_t *run, size_t run_len, uint64_t start, uint64_t *registers) {
+    rofteluvi_ran r = {0, 0};
+    (void)run, (void)run_len, (void)start, (void)registers;
+    __asm__ volatile("");
+    return r;
 }
 
 /* ---- The four mixes ---- */
@@ -180,6 +189,46 @@ static void make(unsigned mix, size_t count) {
     }
 }
 
+/* ---- Runs: the two sequences over and over, all six, and each instruction alone ---- */
+
+enum { LU12I_W = 0x14000000, LU32I_D = 0x16000000, PCALAU12I = 0x1a000000, LU52I_D = 0x03000000, ADDI_D = 0x02c00000, ORI = 0x03800000 };
+static const struct {
+    const char *name;
+    size_t words;
+    uint32_t word[6];
+} run_mix[] = {
+    {"lu12i.w, ori, lu32i.d, lu52i.d", 4, {LU12I_W, ORI, LU32I_D, LU52I_D}},
+    {"pcalau12i, addi.d", 2, {PCALAU12I, ADDI_D}},
+    {"all six in turn", 6, {LU12I_W, ORI, LU32I_D, LU52I_D, PCALAU12I, ADDI_D}},
+    {"lu12i.w alone", 1, {LU12I_W}},
+    {"lu32i.d alone", 1, {LU32I_D}},
+    {"pcalau12i alone", 1, {PCALAU12I}},
+    {"lu52i.d alone", 1, {LU52I_D}},
+    {"addi.d alone", 1, {ADDI_D}},
+    {"ori alone", 1, {ORI}},
+};
+enum { RUN_MIXES = sizeof run_mix / sizeof *run_mix, RUN_SIZES = 2 };
+static const size_t run_sizes[RUN_SIZES] = {256, 4096};
+static uint8_t words[16384];
+static size_t word_count;
+static uint64_t registers[32], registers_after_plain[32];
+
+/* Random immediates and registers, the first of them too; a sequence is on one register. */
+static void make_run(unsigned mix, size_t count) {
+    uint32_t rd = 0;
+    random_state = 1000 * mix + count;
+    for (word_count = 0; word_count < count; word_count++) {
+        uint32_t word = run_mix[mix].word[word_count % run_mix[mix].words];
+        if (word_count % run_mix[mix].words == 0)
+            rd = (uint32_t)random_below(32);
+        uint32_t immediate = (uint32_t)random_below(1 << 20);
+        word |= word < LU12I_W ? (immediate & 0xfff) << 10 | rd << 5 | rd : immediate << 5 | rd;
+        put(words + 4 * word_count, word, 4);
+    }
+    for (size_t k = 0; k < 32; k++)
+        registers[k] = random_below(UINT32_MAX) << 32 | random_below(UINT32_MAX);
+}
+
 /* ---- Counting ---- */
 
 static const char *const function_name[FUNCTIONS] = {"nothing", "plain C", "rofteluvi_patch"};
@@ -187,10 +236,18 @@ static patch_function *const function[FUNCTIONS] = {nothing, plain_patch, roftel
 static patch_function *volatile chosen;
 static rofteluvi_answer result;
 
+static const char *const run_name[FUNCTIONS] = {"nothing", "plain C", "rofteluvi_run"};
+static run_function *const run_choice[FUNCTIONS] = {run_nothing, plain_run, rofteluvi_run};
+static run_function *volatile chosen_run; /* NULL: a call of patch is counted */
+static rofteluvi_ran run_result;
+
 void counted(void);
 __attribute__((noinline)) void counted(void) {
     count_on();
-    result = chosen(section, sizeof section, records, 24 * record_count, values, 56 * row_count, address, gp);
+    if (chosen_run != NULL)
+        run_result = chosen_run(words, 4 * word_count, address, registers);
+    else
+        result = chosen(section, sizeof section, records, 24 * record_count, values, 56 * row_count, address, gp);
     count_off();
 }
 
@@ -226,6 +283,33 @@ static void name_region(unsigned mix, size_t size, unsigned which) {
     printf("%s;%zu;%s\n", mix_name[mix], size, function_name[which]);
 }
 
+/* The same for runs: counted, or only named. */
+static void each_run(int count) {
+    for (unsigned mix = 0; mix < RUN_MIXES; mix++)
+        for (unsigned size = 0; size < RUN_SIZES; size++)
+            for (unsigned which = 0; which < FUNCTIONS; which++) {
+                if (!count) {
+                    printf("%s;%zu;%s\n", run_mix[mix].name, run_sizes[size], run_name[which]);
+                    continue;
+                }
+                make_run(mix, run_sizes[size]);
+                chosen_run = run_choice[which];
+                counted();
+                chosen_run = NULL;
+                if (which > 0 && (run_result.number != 0 || run_result.place != word_count)) {
+                    printf("%s, %s, %zu words: number %" PRIu32 ", place %" PRIu32 "\n", run_mix[mix].name, run_name[which], word_count,
+                           run_result.number, run_result.place);
+                    exit(1);
+                }
+                if (which == 1)
+                    memcpy(registers_after_plain, registers, sizeof registers);
+                if (which == 2 && memcmp(registers_after_plain, registers, sizeof registers) != 0) {
+                    printf("%s, %zu words: the registers differ\n", run_mix[mix].name, word_count);
+                    exit(1);
+                }
+            }
+}
+
 /* ---- Stack use: the call runs on a stack that was painted before, and the paint that is gone is looked for ---- */
 
 enum { STACK_BYTES = 1 << 20, PAINT = 0xa5 };
@@ -256,8 +340,10 @@ int main(int argc, char **argv) {
     const char *what = argc > 1 ? argv[1] : "";
     if (strcmp(what, "list") == 0) {
         each(NULL, name_region);
+        each_run(0);
     } else if (strcmp(what, "count") == 0) {
         each(on_this_stack, NULL);
+        each_run(1);
     } else if (strcmp(what, "stack") == 0) {
         each(on_painted_stack, note_touched);
         for (unsigned which = 1; which < FUNCTIONS; which++)

@@ -457,3 +457,36 @@ rofteluvi_immediate plain_read_back(const uint8_t *section, size_t section_len, 
         r.value = immediate(type, load32(section + offset));
     return r;
 }
+
+/* ---- Run ---- */
+
+static inline rofteluvi_ran ran(uint32_t number, size_t place) {
+    rofteluvi_ran r = {number, (uint32_t)place};
+    return r;
+}
+
+rofteluvi_ran plain_run(const uint8_t *run, size_t run_len, uint64_t start, uint64_t registers[ROFTELUVI_REGISTERS]) {
+    registers[0] = 0;
+    if (run_len > 16384)
+        return ran(1, 0);
+    size_t count = run_len / 4;
+    for (size_t i = 0; i < count; i++) {
+        uint32_t word = load32(run + 4 * i);
+        const uint64_t *rj = &registers[word >> 5 & 31];
+        uint64_t *rd = &registers[word & 31];
+        switch (word >> 25) {
+        case 0x0a: *rd = (uint64_t)sign_extended(word >> 5, 20) << 12; break;
+        case 0x0b: *rd = (uint64_t)sign_extended(word >> 5, 20) << 32 | (uint32_t)*rd; break;
+        case 0x0d: *rd = (start + 4 * i + ((uint64_t)sign_extended(word >> 5, 20) << 12)) & ~(uint64_t)0xfff; break;
+        default:
+            switch (word >> 22) {
+            case 0x0b: *rd = *rj + (uint64_t)sign_extended(word >> 10, 12); break;
+            case 0x0c: *rd = (uint64_t)(word >> 10) << 52 | (*rj & 0xfffffffffffff); break;
+            case 0x0e: *rd = *rj | (word >> 10 & 0xfff); break;
+            default: return ran(19, i);
+            }
+        }
+        registers[0] = 0;
+    }
+    return ran(run_len % 4 != 0 ? 19 : 0, count);
+}

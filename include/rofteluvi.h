@@ -1,13 +1,15 @@
 /* rofteluvi: patches LoongArch ELF64 relocation records (psABI 2.01, Table 10) into a section.
 
-   Two functions, numbers and byte buffers only. No state, no memory of its own, no system call: calls are independent of each
+   Three functions, numbers and buffers only: patch a section, read an immediate back, and run a sequence of instructions to see the
+   address that it loads. No state, no memory of its own, no system call: calls are independent of each
    other and may run on any thread at the same time, as long as no two of them share a buffer that one of them writes.
 
    What the caller answers for, since no code can test it:
-     - each buffer is as long as its length says;
-     - the section given to rofteluvi_patch, which is written, overlaps neither the records nor the values.
-   Nothing else is asked: every other input, however damaged, gets an answer. An empty buffer may have a null pointer. Buffers
-   need no alignment. All numbers in the buffers are little-endian. */
+     - each buffer is as long as its length says, and there are 32 registers;
+     - the section given to rofteluvi_patch, which is written, overlaps neither the records nor the values, and the registers given
+       to rofteluvi_run do not overlap the run.
+   Nothing else is asked: every other input, however damaged, gets an answer. An empty buffer may have a null pointer. Byte buffers
+   need no alignment. All numbers in them are little-endian. */
 #ifndef ROFTELUVI_H
 #define ROFTELUVI_H
 
@@ -27,6 +29,9 @@ extern "C" {
 #define ROFTELUVI_RECORD_BYTES_MAX 49152  /* bytes of all records: 2,048 times 24 */
 #define ROFTELUVI_VALUE_BYTES_MAX 57344   /* bytes of all value rows: 1,024 times 56 */
 #define ROFTELUVI_STACK_DEPTH 16          /* entries that the stack of types 22 to 46 holds */
+#define ROFTELUVI_RUN_WORDS_MAX 4096      /* words of a run */
+#define ROFTELUVI_RUN_BYTES_MAX 16384     /* bytes of a run: 4,096 times 4 */
+#define ROFTELUVI_REGISTERS 32            /* registers of a run, 64 bits each */
 
 /* A record is an ELF64 Rela: offset (8 bytes), info (8), addend A (8, signed). The type is the low half of info, the symbol
    index the high half.
@@ -50,7 +55,7 @@ extern "C" {
 enum {
     /* Done. Place: the number of records. The section is patched. */
     ROFTELUVI_ACCEPTED = 0,
-    /* A buffer is longer than its limit. Place: which, 0 section, 1 records, 2 values. */
+    /* A buffer is longer than its limit. Place: which, 0 section (or run), 1 records, 2 values. */
     ROFTELUVI_TOO_LONG = 1,
     /* A buffer is no whole number of records or rows. Place: which, 1 records, 2 values. */
     ROFTELUVI_NOT_WHOLE = 2,
@@ -84,7 +89,9 @@ enum {
     /* The value fits the range, but must be a multiple of 4 and is none. Place: record. */
     ROFTELUVI_NOT_MULTIPLE = 15,
     /* Entries are left on the stack after the last record. Place: the number of records. */
-    ROFTELUVI_STACK_LEFT = 16
+    ROFTELUVI_STACK_LEFT = 16,
+    /* Of rofteluvi_run alone: a word is none of the six instructions. Place: its number in the run, from 0. */
+    ROFTELUVI_UNKNOWN_WORD = 19
 };
 
 typedef struct {
@@ -99,13 +106,18 @@ typedef struct {
     int64_t value;   /* the immediate; 0 when refused */
 } rofteluvi_immediate;
 
+typedef struct {
+    uint32_t number; /* 0, or the number of the refusal */
+    uint32_t place;  /* of the word at fault; the number of words when accepted */
+} rofteluvi_ran;
+
 /* Applies the records, in their order, to a section that is to stand at `address`. `gp` is the address that G, IE and GD count
    from. Accepted: every record is applied, each to the section as the earlier ones left it, and no other bit of the section is
    changed. Refused: the section is as it came. Records and values are only read.
 
    Types 71, 75, 87, 95 and 97, for pcalau12i, take the target's upper part after adding 800h to the target: with addi.d or a load,
    which add the target's low 12 bits as a signed number, the pair lands on the target, wherever the distance from PC's page to that
-   upper part fits 32 bits signed. That it fits is not checked. */
+   upper part fits 32 bits signed. That it fits is not checked: rofteluvi_run shows where the pair points. */
 rofteluvi_answer rofteluvi_patch(uint8_t *section, size_t section_len,
                                  const uint8_t *records, size_t records_len,
                                  const uint8_t *values, size_t values_len,
@@ -118,6 +130,18 @@ rofteluvi_answer rofteluvi_patch(uint8_t *section, size_t section_len,
    ROFTELUVI_UNALIGNED. */
 rofteluvi_immediate rofteluvi_read_back(const uint8_t *section, size_t section_len,
                                         uint64_t address, uint64_t offset, uint32_t type);
+
+/* Runs the words of a buffer, one after the other, as instructions at `start`, `start`+4 and so on, and ends after the last. It knows
+   lu12i.w, lu32i.d, lu52i.d, ori, addi.d and pcalau12i, as the LoongArch reference manual has them. No memory is looked at but the run,
+   and none is written but the registers: they hold the caller's numbers at the start, but that the first, $zero, is taken as 0, and
+   afterwards what the run leaves. The first is 0 then, always: a write to it is lost.
+   Refusals, in this order: ROFTELUVI_TOO_LONG (place 0; the registers are those at the start) and ROFTELUVI_UNKNOWN_WORD (the registers
+   are those before that word). A last piece of 1 to 3 bytes is such a word.
+
+   Given a patched section that holds only lu12i.w, ori, lu32i.d, lu52i.d, patched by types 67 to 70 for one symbol and addend, all on one
+   register that is not the first, and the section's address, that register then holds S+A. With pcalau12i and addi.d, patched by 71 and
+   72, it holds S+A exactly if the distance fits (see rofteluvi_patch), and else an address that is a multiple of 2^32 away. */
+rofteluvi_ran rofteluvi_run(const uint8_t *run, size_t run_len, uint64_t start, uint64_t registers[ROFTELUVI_REGISTERS]);
 
 #ifdef __cplusplus
 }

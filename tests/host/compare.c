@@ -11,7 +11,7 @@
 #include <stdlib.h>
 #include <string.h>
 
-static struct guarded section_memory, records_memory, values_memory;
+static struct guarded section_memory, records_memory, values_memory, registers_memory;
 
 /* ---- A fault in the archive's code is a difference like another ---- */
 
@@ -46,9 +46,10 @@ void compare_open(void) {
     guarded_open(&section_memory);
     guarded_open(&records_memory);
     guarded_open(&values_memory);
+    guarded_open(&registers_memory);
 }
 
-/* The archive's two functions. Each answers 0, or the signal that stopped the call. */
+/* The archive's functions. Each answers 0, or the signal that stopped the call. */
 static int call_patch(const struct call *c, rofteluvi_answer *got) {
     fault_signal = 0;
     if (sigsetjmp(after_fault, 0) == 0) {
@@ -65,6 +66,16 @@ static int call_read_back(const struct call *c, uint64_t offset, uint32_t type, 
     if (sigsetjmp(after_fault, 0) == 0) {
         in_call = 1;
         *got = rofteluvi_read_back(c->section, c->section_len, c->address, offset, type);
+        in_call = 0;
+    }
+    return fault_signal;
+}
+
+static int call_run(const uint8_t *run, size_t run_len, uint64_t start, uint64_t *registers, rofteluvi_ran *got) {
+    fault_signal = 0;
+    if (sigsetjmp(after_fault, 0) == 0) {
+        in_call = 1;
+        *got = rofteluvi_run(run, run_len, start, registers);
         in_call = 0;
     }
     return fault_signal;
@@ -255,5 +266,56 @@ rofteluvi_immediate compare_read_back(struct draft *d, uint64_t offset, uint32_t
         exit(1);
     }
     coverage_read_back(type, want);
+    return want;
+}
+
+/* ---- One run ---- */
+
+/* Prints a run: its words, and its registers at the start. */
+static void print_run(const uint8_t *run, size_t run_len, uint64_t start, const uint64_t *registers) {
+    printf("The run, at %" PRIx64 ", %zu bytes:", start, run_len);
+    for (size_t i = 0; i < run_len && i < 64; i++)
+        printf("%s%02x", i % 4 == 0 ? " " : "", run[i]);
+    printf("%s\nIts registers at the start:", run_len > 64 ? " .." : "");
+    for (size_t i = 0; i < ROFTELUVI_REGISTERS; i++)
+        printf(" %" PRIx64, registers[i]);
+    printf("\n");
+}
+
+rofteluvi_ran compare_run(const uint8_t *run, size_t run_len, uint64_t start, uint64_t registers[ROFTELUVI_REGISTERS]) {
+    static unsigned turn;
+    enum { BYTES = 8 * ROFTELUVI_REGISTERS };
+    uint64_t before[ROFTELUVI_REGISTERS], left[ROFTELUVI_REGISTERS];
+    rofteluvi_ran got = {0, 0};
+    memcpy(before, registers, BYTES);
+    rofteluvi_ran want = reference_run(run, run_len, start, registers);
+
+    const uint8_t *words = placed(&section_memory, run, run_len, turn % 4 == 3, turn % 2 == 0);
+    uint8_t *lent = guarded_place(&registers_memory, (const uint8_t *)before, BYTES, turn % 8 < 4);
+    guarded_read_only(&section_memory, 1);
+    int signal_number = call_run(words, run_len, start, (uint64_t *)lent, &got);
+    guarded_read_only(&section_memory, 0);
+    memcpy(left, lent, BYTES);
+
+    size_t differ = 0;
+    while (differ < ROFTELUVI_REGISTERS && left[differ] == registers[differ])
+        differ++;
+    int beside = !guarded_rest_unchanged(&registers_memory, turn % 61 == 0);
+    turn++;
+    if (signal_number != 0 || got.number != want.number || got.place != want.place || differ < ROFTELUVI_REGISTERS || beside) {
+        printf("DIFFERENCE in rofteluvi_run\n");
+        if (signal_number != 0)
+            printf("archive:   signal %d\n", signal_number);
+        else
+            printf("archive:   number %" PRIu32 ", place %" PRIu32 "\n", got.number, got.place);
+        printf("reference: number %" PRIu32 ", place %" PRIu32 "\n", want.number, want.place);
+        if (differ < ROFTELUVI_REGISTERS)
+            printf("register %zu: archive %" PRIx64 ", reference %" PRIx64 "\n", differ, left[differ], registers[differ]);
+        if (beside)
+            printf("bytes beside the registers were written to\n");
+        print_run(run, run_len, start, before);
+        exit(1);
+    }
+    coverage_run(run, run_len, want);
     return want;
 }

@@ -13,6 +13,13 @@ static uint64_t back_by_type[TYPES][NUMBERS]; /* calls of read back */
 static uint64_t at_place[NUMBERS][2049];      /* calls by number and place */
 static uint64_t at_half_a_page[TYPES][2];     /* records of accepted calls whose target's low 12 bits are 7ffh, 800h */
 
+enum { INSTRUCTIONS = 6 };
+static uint64_t run_calls, longest_run, too_long_by_a_word, too_long_by_a_byte;
+static uint64_t by_instruction[INSTRUCTIONS][ROFTELUVI_REGISTERS]; /* words that were run, by kind and rd */
+static uint64_t stopped_after[5];                                   /* runs that 19 ended: by the bytes that were left, 4 for a word */
+
+static uint64_t sequences[SEQUENCES];
+
 static unsigned row_of(uint32_t type) {
     return type < HIGHER ? type : HIGHER;
 }
@@ -51,6 +58,29 @@ void coverage_read_back(uint32_t type, rofteluvi_immediate answer) {
     read_back_calls++;
     if (answer.number < NUMBERS)
         back_by_type[row_of(type)][answer.number]++;
+}
+
+void coverage_run(const uint8_t *run, size_t run_len, rofteluvi_ran ran) {
+    run_calls++;
+    if (ran.number == ROFTELUVI_TOO_LONG) {
+        too_long_by_a_byte += run_len == ROFTELUVI_RUN_BYTES_MAX + 1;
+        too_long_by_a_word += run_len == ROFTELUVI_RUN_BYTES_MAX + 4;
+        return;
+    }
+    for (size_t i = 0; i < ran.place; i++) {
+        uint32_t word = run[4 * i] | (uint32_t)run[4 * i + 1] << 8 | (uint32_t)run[4 * i + 2] << 16 | (uint32_t)run[4 * i + 3] << 24;
+        by_instruction[reference_instruction(word)][word & 31]++;
+    }
+    if (ran.number == ROFTELUVI_ACCEPTED && ran.place > longest_run)
+        longest_run = ran.place;
+    if (ran.number == ROFTELUVI_UNKNOWN_WORD) {
+        size_t rest = run_len - 4 * (size_t)ran.place;
+        stopped_after[rest < 4 ? rest : 4]++;
+    }
+}
+
+void coverage_sequence(enum sequence which) {
+    sequences[which]++;
 }
 
 static int between(uint32_t type, uint32_t low, uint32_t high) {
@@ -104,6 +134,32 @@ static uint32_t last_place(uint32_t number) {
     }
 }
 
+/* Each instruction with each register written, each way to stop, and a run as long as can be. */
+static unsigned runs_missing(void) {
+    unsigned missing = 0;
+    for (unsigned kind = 0; kind < INSTRUCTIONS; kind++)
+        for (unsigned rd = 0; rd < ROFTELUVI_REGISTERS; rd++)
+            if (by_instruction[kind][rd] < 100) {
+                printf("not met: instruction %u with register %u, 100 times\n", kind, rd);
+                missing++;
+            }
+    for (unsigned rest = 1; rest <= 4; rest++)
+        if (stopped_after[rest] < 100) {
+            printf("not met: number 19 with %u bytes left, 100 times\n", rest);
+            missing++;
+        }
+    for (unsigned which = 0; which < SEQUENCES; which++)
+        if (sequences[which] < 1000) {
+            printf("not met: 1000 patched sequences that were run, of kind %u (%" PRIu64 ")\n", which, sequences[which]);
+            missing++;
+        }
+    if (longest_run != ROFTELUVI_RUN_WORDS_MAX || too_long_by_a_word == 0 || too_long_by_a_byte == 0) {
+        printf("not met: runs of 4096 words, of a byte more and of a word more\n");
+        missing++;
+    }
+    return missing;
+}
+
 unsigned coverage_missing(void) {
     unsigned missing = 0;
     for (uint32_t type = 0; type < TYPES; type++) {
@@ -143,6 +199,7 @@ unsigned coverage_missing(void) {
         printf("not met: number 1 at place 1\n");
         missing++;
     }
+    missing += runs_missing();
     if (patch_calls < 100000) {
         printf("not met: 100000 calls of patch (%" PRIu64 ")\n", patch_calls);
         missing++;
@@ -161,5 +218,7 @@ void coverage_summary(uint64_t seed) {
     for (uint32_t number = 1; number < NUMBERS; number++)
         if (number != BAD_FRAME)
             printf(" %" PRIu32 ":%" PRIu64, number, numbers[number]);
-    printf(", %" PRIu64 " read back calls, no difference\n", read_back_calls);
+    printf(", %" PRIu64 " read back calls, %" PRIu64 " runs (%" PRIu64 " of them patched, %" PRIu64
+           " with a target past a pair's reach), no difference\n", read_back_calls, run_calls,
+           sequences[LOADED] + sequences[WITHIN_REACH] + sequences[PAST_REACH], sequences[PAST_REACH]);
 }

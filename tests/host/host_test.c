@@ -1,4 +1,4 @@
-/* Compares the archive with the independent reference: fixed, systematic and random calls.
+/* Compares the archive with the independent reference: fixed, systematic and random calls and runs.
 
        host_test [seed [random calls]]
 
@@ -7,6 +7,7 @@
 #include "compare.h"
 #include "coverage.h"
 #include "generate.h"
+#include "runs.h"
 
 #include <inttypes.h>
 #include <stdio.h>
@@ -60,6 +61,7 @@ int main(int argc, char **argv) {
     random_seed(seed);
     compare_open();
 
+    runs_not_left_to_chance();
     cases_fixed();
     cases_systematic();
     cases_read_back();
@@ -70,6 +72,10 @@ int main(int argc, char **argv) {
             check_round_trip(&d);
         if (i % 2 == 0)
             random_read_back();
+        if (i % 4 == 0)
+            runs_random();
+        if (i % 4 == 2)
+            runs_patched();
     }
 
     if (coverage_missing() > 0) {

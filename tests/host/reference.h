@@ -1,5 +1,5 @@
-/* The same two operations as rofteluvi.h, written a second time from the customer's paper and the psABI's Table 10, to be
-   compared with the archive. Made to be read, not to be fast. */
+/* The same three operations as rofteluvi.h, written a second time from the customer's papers, the psABI's Table 10 and the LoongArch
+   reference manual, to be compared with the archive. Made to be read, not to be fast. */
 #ifndef REFERENCE_H
 #define REFERENCE_H
 
@@ -35,6 +35,12 @@ rofteluvi_answer reference_patch(const struct call *call);
 /* Reads an immediate back. */
 rofteluvi_immediate reference_read_back(const uint8_t *section, size_t section_len, uint64_t address, uint64_t offset,
                                         uint32_t type);
+
+/* Runs a sequence of instructions (reference_run.c). */
+rofteluvi_ran reference_run(const uint8_t *run, size_t run_len, uint64_t start, uint64_t registers[ROFTELUVI_REGISTERS]);
+
+/* Which of the six a word is: lu12i.w, lu32i.d, pcalau12i, lu52i.d, addi.d, ori, from 0; -1 if none. */
+int reference_instruction(uint32_t word);
 
 /* Checks one record, given the stack before it: 0, or the number of its refusal, 4 to 15 or 18. If it is 0, the stack becomes the one
    after it, and *value the number that the record puts into the section, where it puts one. No section byte is looked at. */

@@ -1,5 +1,5 @@
 -- Read back over plain numbers. Assumes nothing.
-use Prim.Native.Nat.{ℕ, suc, _+_, _-_, _*_, _%_, _^_, _≤_, _<_}
+use Prim.Native.Nat.{ℕ, _+_, _*_, _%_, _^_, _≤_, _<_}
 use native.Mathlib.Nat.{add-zero, mul-one, lt-of-lt-of-le}
 use native.Mathlib.Omega.{arith}
 use mathlib.Core.Bool.{Bool, true, false, not, _||_, false≢true}
@@ -8,13 +8,13 @@ use mathlib.Core.Path.{_≡_, refl, sym, ap, _∙_}
 use borrow.Author.Tests.{lt-ltb, le-ltb, lt-leb, eq-eqb, ne-eqb, not-false}
 use lib.Bits.{bitOr, or-lt, or-shifted}
 use lib.Dec.{T, leb}
-use lib.IntN.{ℤ, pos, negsuc}
+use lib.IntN.{ℤ, pos}
 use lib.ListN.{length, take, drop}
-use lib.Pow.{pow-mono, pow-lt, shl-lt, shl-exact}
+use lib.Pow.{pow-mono, shl-lt, shl-exact}
 use lib.Signed.{mag}
 use mir.Syntax.{w64}
 use mir.Val.{ofZ, toZ}
-use mir.ValLaws.{toZ-pos, toZ-neg, toZ-ofZ}
+use mir.ValLaws.{toZ-pos, toZ-ofZ}
 use types.Run.{OneOf}
 use Rattle.meaning.specs.Numbers.{number, plus, signed}
 use Rattle.meaning.specs.Table.{Semantics, table, semantics}
@@ -47,26 +47,6 @@ pub above-98 : (t : ℕ) → 98 < t → true ≡ not (isWord (semantics t))
 unfolding every table
 above-98 t h =
     found (λ d. true ≡ not (isWord d)) (λ k d. leb k 98 || not (isWord d)) table t tt (λ d p. is-true (not (isWord d)) (rw (lt-leb t 98 h) at p)) refl
-
--- ---- n bits read as signed: half is their top bit, and full is one above them all
-
-module _ (n x : ℕ) (few : n < 63) (h : x < 2 ^ n) where
-  pub fits : x < 2 ^ 63
-  fits = let p : 2 ^ n < 2 ^ 63 = pow-lt few in omega arith
-
-  module _ (half : ℕ) (top : half ≡ 2 ^ (n - 1)) where
-    pub from-zero : x < half → toZ w64 x ≡ signed n x
-    from-zero k = toZ-pos w64 x fits ∙ sym (rw (lt-ltb x (2 ^ (n - 1)) (rw top at k)))
-
-    module _ (full : ℕ) (all : full ≡ 2 ^ n) where
-      pub left-fits : full - 1 - x < 2 ^ 63
-      left-fits = let p : 2 ^ n < 2 ^ 63 = pow-lt few in omega arith
-
-      pub below-zero : half ≤ x → toZ w64 (2 ^ 64 - 1 - (full - 1 - x)) ≡ signed n x
-      below-zero k =
-          let p : 2 ^ 64 - 1 - (full - 1 - x) ≡ 2 ^ 64 - suc (full - 1 - x) = omega (arith, left-fits) in
-          let q : full - 1 - x ≡ 2 ^ n - suc x = omega arith in
-          ap (toZ w64) p ∙ toZ-neg w64 (full - 1 - x) left-fits ∙ ap negsuc q ∙ sym (rw (le-ltb x (2 ^ (n - 1)) (rw top at k)))
 
 -- ---- the bare field: one part, or one above the other
 

@@ -4,8 +4,7 @@ use table::*;
 ghost use mathlib.Core.Path.{_≡_};
 ghost use mathlib.Core.Bool.{not, true};
 ghost use mathlib.Core.List.{[], _∷_};
-ghost use Prim.Native.Nat.{_+_, _^_, _≤_, _<_};
-ghost use Rattle.meaning.specs.Numbers as N;
+ghost use Prim.Native.Nat.{_+_};
 ghost use Rattle.meaning.specs.Call.{card64, semanticsOn};
 ghost use Rattle.meaning.specs.Checks as C;
 ghost use Rattle.meaning.specs.ReadBack.{valueBack};
@@ -30,25 +29,6 @@ fn no_word(rtype: u64) -> bool
     }
 }
 
-fn power(n: u32) -> u64
-    requires { ⌜ n < 64 ⌝ }
-    ensures { λ r. ⌜ r ≡ 2 ^ n ⌝ }
-{
-    1 << n
-}
-
-// n bits read as a signed number. From the half up they stand for numbers below 0: what is left above them is turned over.
-fn signed_at(n: u32, x: u64) -> i64
-    requires { ⌜ (1 ≤ n) × (n < 63) ⌝ }
-    requires { ⌜ x < 2 ^ n ⌝ }
-    ensures { λ r. ⌜ r ≡ N.signed n x ⌝ }
-{
-    if x < power(n - 1) {
-        return x as i64;
-    }
-    !((power(n) - 1 - x) as i64)
-}
-
 // A field of one part, bare: its low zeros and its sign are not restored.
 fn bare(word: u64, part: Part) -> u64
     requires { ⌜ Inside part ⌝ }
@@ -71,14 +51,14 @@ fn value_in(rtype: u64, word: u64) -> i64
     ensures { λ r. ⌜ r ≡ valueBack (semanticsOn card64 rtype) word ⌝ }
 {
     match rtype {
-        38 => signed_at(5, bare(word, LOW5)),
+        38 => numbers::signed_at(5, bare(word, LOW5)),
         39 => bare(word, LO12) as i64,
-        40 => signed_at(12, bare(word, LO12)),
-        41 => signed_at(16, bare(word, LOW16)),
-        42 | 64 => signed_at(18, bare(word, MID16) * 4),
-        43 => signed_at(20, bare(word, LOW20)),
-        44 | 65 => signed_at(23, bare_of_two(word, HI5, MID16) * 4),
-        45 | 66 => signed_at(28, bare_of_two(word, HI10, MID16) * 4),
+        40 => numbers::signed_at(12, bare(word, LO12)),
+        41 => numbers::signed_at(16, bare(word, LOW16)),
+        42 | 64 => numbers::signed_at(18, bare(word, MID16) * 4),
+        43 => numbers::signed_at(20, bare(word, LOW20)),
+        44 | 65 => numbers::signed_at(23, bare_of_two(word, HI5, MID16) * 4),
+        45 | 66 => numbers::signed_at(28, bare_of_two(word, HI10, MID16) * 4),
         46 => bare(word, WORD) as i64,
         // 67 to 98 give the bare field. LO12 and 64_HI12 have the same bits of the word, and so have HI20 and 64_LO20. Neighbours stand in
         // different arms: an arm of neighbours becomes a range test.

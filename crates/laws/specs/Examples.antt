@@ -61,7 +61,7 @@ bit-kept = named-bits-only at-1000 four code refl code-bytes 1 0 (omega arith) i
 -- ---- read back
 
 -- The record that `record-bytes` has the bytes of.
-pub record-at : ℕ → ℕ → ℕ → Record
+unfoldable pub record-at : ℕ → ℕ → ℕ → Record
 record-at offset type addend = record { offset = offset; type = type; symbol = 0; addend = addend; row = symbol0 }
 
 -- The push, the record that puts -3 into the word at 0, and those after it, which write no byte of that word.
@@ -108,13 +108,13 @@ missed-low = below-is-18 at-1000 too-low .0 (ap (λ (a : Answer). a .number) ref
 -- ---- a pair that lands
 
 -- pcalau12i $a0, 0; addi.d $a0, $a0, 0: at address 12340004h, with the target 12345800h (71 and 72)
-pub pair : List ℕ
+unfoldable pub pair : List ℕ
 pair = bytesOf 4 0x1a000004 ++ bytesOf 4 0x02c00084
 
-pub at-12340004 : Call
+unfoldable pub at-12340004 : Call
 at-12340004 = call pair [] 0x12340004 0
 
-pub two : List ℕ
+unfoldable pub two : List ℕ
 two = record-bytes 0 71 0x12345800 ++ record-bytes 4 72 0x12345800
 
 -- pcalau12i $a0, 6; addi.d $a0, $a0, -2048
@@ -127,7 +127,7 @@ pub upper : UpperPart card64 71
 unfolding table look
 upper = record { target = S+A; is = refl }
 
-pub after-upper : List Record
+unfoldable pub after-upper : List Record
 after-upper = record-at 4 72 0x12345800 ∷ []
 
 pub none-after : WordUntouched (at-12340004 .setting) after-upper 0

@@ -124,7 +124,7 @@ bare-mod (p ∷ ps) w h =
 -- ---- a value's bits back to the value
 
 -- Bits with zeros below them, and the zeros restored.
-restored : (k n x : ℕ) → x % 2 ^ k ≡ 0 → slice k n x * 2 ^ k ≡ x % 2 ^ (n + k)
+pub restored : (k n x : ℕ) → x % 2 ^ k ≡ 0 → slice k n x * 2 ^ k ≡ x % 2 ^ (n + k)
 restored k n x h = let e = mod-pow-add x n k in omega arith
 
 -- A number of n bits above k zeros.
@@ -138,7 +138,7 @@ pow-split n k h =
     ap (λ (j : ℕ). 2 ^ j) e ∙ pow-add 2 (n - k) k
 
 -- The low n of a number's w bits, where n bits hold it, read as signed, are the number.
-signed-low : (w n : ℕ) (z : ℤ) → 1 ≤ n → n ≤ w → mag z < 2 ^ (n - 1) → signed n (bitsOf w z % 2 ^ n) ≡ z
+pub signed-low : (w n : ℕ) (z : ℤ) → 1 ≤ n → n ≤ w → mag z < 2 ^ (n - 1) → signed n (bitsOf w z % 2 ^ n) ≡ z
 signed-low w n (pos a) one most small =
     let e = pow-split n 1 one in
     let l : a < 2 ^ n = omega arith in

@@ -13,6 +13,10 @@ pub mod ReadBack
 pub mod Refused
 pub mod Types
 pub mod Pair
+pub mod Words
+pub mod Extended
+pub mod Sequence
 pub mod Examples
+pub mod SequenceExamples
 pub mod Unique
 pub mod Program

@@ -112,29 +112,35 @@ module _ (c : Setting) (r : Record) (x : Sum) (wide-enough : 32 ≤ c .card .wid
   abbrev distance : ℕ
   distance = formula c r (pages x)
 
+  pub whole-pages : formula c r (pages x) % 2 ^ 12 ≡ 0
+  whole-pages = pages-apart w (plus w (sum c r x) 0x800) (PC c r) (omega arith)
+
   field-is : FitsSigned 32 (signed w distance) → bitsOf w (signed 32 (slice 12 20 distance * 2 ^ 12)) ≡ distance
   field-is fits =
       let least = suc-ones 31 in
       let back : bitsOf w (signed w distance) ≡ distance = bits-signed w distance (mod-lt _ (pow-pos w)) in
-      let zeros : distance % 2 ^ 12 ≡ 0 = pages-apart w (plus w (sum c r x) 0x800) (PC c r) (omega arith) in
       let small : mag (signed w distance) < 2 ^ 31 =
       signed-range (2 ^ 31) (2 ^ 31 - 1) (2 ^ 31 - 1) (signed w distance) least least (fits .not-above) (fits .not-below) in
       ap (bitsOf w)
       (ap (λ (d : ℕ). signed 32 (slice 12 20 d * 2 ^ 12)) (sym back)
-      ∙ signed-back w 12 20 (signed w distance) (omega arith) wide-enough (ap (λ (d : ℕ). d % 2 ^ 12) back ∙ zeros) small)
+      ∙ signed-back w 12 20 (signed w distance) (omega arith) wide-enough (ap (λ (d : ℕ). d % 2 ^ 12) back ∙ whole-pages) small)
       ∙ back
 
-  pub pair-lands : sum c r x < 2 ^ c .card .width → FitsSigned 32 (signed (c .card .width) (formula c r (pages x))) →
-      leads (c .card .width) (PC c r) (slice 12 20 (formula c r (pages x))) (slice 0 12 (sum c r x)) ≡ sum c r x
-  pair-lands below fits =
+  -- The whole distance, and the low 12 bits, always lead there.
+  pub distance-lands : sum c r x < 2 ^ c .card .width →
+      plus (c .card .width) (plus (c .card .width) (cleared 12 (PC c r)) (formula c r (pages x))) (bitsOf (c .card .width) (signed 12 (slice 0 12 (sum c r x)))) ≡ sum c r x
+  distance-lands below =
       let upper : ℕ = cleared 12 (plus w (sum c r x) 0x800) in
       let low : ℤ = signed 12 (sum c r x % 4096) in
       let after : plus w (sum c r x) 0x800 < 2 ^ w = mod-lt (sum c r x + 0x800) (pow-pos w) in
       let less : upper < 2 ^ w = omega arith in
       rw (div-one (sum c r x))
-      (ap (λ (d : ℕ). plus w (plus w (cleared 12 (PC c r)) d) (bitsOf w low)) (field-is fits)
-      ∙ ap (λ (d : ℕ). plus w d (bitsOf w low)) (plus-minus w upper (cleared 12 (PC c r)) less)
-      ∙ low-added w (sum c r x) (omega arith) below)
+      (ap (λ (d : ℕ). plus w d (bitsOf w low)) (plus-minus w upper (cleared 12 (PC c r)) less) ∙ low-added w (sum c r x) (omega arith) below)
+
+  pub pair-lands : sum c r x < 2 ^ c .card .width → FitsSigned 32 (signed (c .card .width) (formula c r (pages x))) →
+      leads (c .card .width) (PC c r) (slice 12 20 (formula c r (pages x))) (slice 0 12 (sum c r x)) ≡ sum c r x
+  pair-lands below fits =
+      ap (λ (d : ℕ). plus w (plus w (cleared 12 (PC c r)) d) (bitsOf w (signed 12 (slice 0 12 (sum c r x))))) (field-is fits) ∙ distance-lands below
 
 -- ---- the five types
 

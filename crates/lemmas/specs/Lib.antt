@@ -6,3 +6,4 @@ pub mod Bytes
 pub mod Splice
 pub mod Modulo
 pub mod Operations
+pub mod Words

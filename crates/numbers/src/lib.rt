@@ -79,6 +79,16 @@ pub fn shift_right(opr1: i64, count: u32) -> i64
     opr1 >> count
 }
 
+// n bits read as a signed number: shifted up until the highest of them is the top bit, and down again.
+pub fn signed_at(n: u32, x: u64) -> i64
+    requires { ⌜ (1 ≤ n) × (n < 64) ⌝ }
+    requires { ⌜ x < 2 ^ n ⌝ }
+    ensures { λ r. ⌜ r ≡ N.signed n x ⌝ }
+{
+    let above = 64 - n;
+    shift_right(signed(x << above), above)
+}
+
 // Whether n bits hold z as a signed number: the bits from the top one of those n up are all as the sign bit is.
 pub fn in_signed(n: u32, z: i64) -> bool
     requires { ⌜ (1 ≤ n) × (n < 64) ⌝ }

@@ -1,7 +1,9 @@
-// The C face: numbers and byte buffers in, a number, a place and an offset or a value out. include/rofteluvi.h declares it for a C program.
+// The C face: numbers and buffers in, a number, a place and an offset or a value out. include/rofteluvi.h declares it for a C program.
 use back::Immediate;
+use executor::Ran;
 use patch::Answer;
-ghost use Rattle.rofteluvi.specs.Face.{Patches, ReadsBack};
+use sizes::REGISTERS;
+ghost use Rattle.rofteluvi.specs.Face.{Patches, ReadsBack, Runs};
 
 // rofteluvi_answer of the header.
 #[repr(C)]
@@ -17,6 +19,13 @@ pub struct RofteluviImmediate {
     pub number: u32,
     pub place: u32,
     pub value: i64,
+}
+
+// rofteluvi_ran of the header.
+#[repr(C)]
+pub struct RofteluviRan {
+    pub number: u32,
+    pub place: u32,
 }
 
 #[no_mangle]
@@ -66,5 +75,24 @@ pub extern "C" fn rofteluvi_read_back(
             place: 0,
             value: 0,
         },
+    }
+}
+
+// The registers are the caller's, and what they hold is the run's result.
+#[no_mangle]
+pub extern "C" fn rofteluvi_run(
+    run: &[u8],
+    start: u64,
+    registers: &mut [u64; REGISTERS],
+) -> RofteluviRan
+    ensures { λ r. ⌜ Runs (now (run .entry)) start (now (registers .entry)) r (now (registers .exit)) ⌝ }
+{
+    let ran = executor::run(run, start, registers);
+    match ran {
+        Ran::Ended(words) => RofteluviRan {
+            number: 0,
+            place: words,
+        },
+        Ran::Refused(number, place) => RofteluviRan { number, place },
     }
 }

@@ -1,4 +1,4 @@
-// The sizes and limits of document 01, each once.
+// The sizes and limits of documents 01 and 02, each once.
 
 // A record is 24 bytes, a value row 56.
 pub const RECORD: usize = 24;
@@ -14,3 +14,8 @@ pub const VALUES_LIMIT: usize = 57344;
 
 // The highest mask, with every value present.
 pub const MASK_LIMIT: u64 = 63;
+
+// At most 4,096 words in a run, on 32 registers.
+pub const RUN_LIMIT: usize = 16384;
+
+pub const REGISTERS: usize = 32;
