@@ -10,7 +10,7 @@ use borrow.Author.Tests.{lt-ltb, le-ltb, ne-eqb}
 use lib.Bits.{bitAnd, bitOr, and-mask, or-shifted}
 use lib.Dec.{ltb}
 use lib.ListN.{length, take, drop, getD, length-drop}
-use lib.Pow.{pow-pos, shl-exact, shl-shr, shr-lt}
+use lib.Pow.{pow-pos, shl-exact, shl-shr, shr-mod}
 use lib.Seq.{take-all}
 use Rattle.meaning.specs.Numbers.{number, plus}
 use Rattle.meaning.specs.Field.{slice}
@@ -69,16 +69,13 @@ module _ (word : ℕ) (registers : List ℕ) {x : ℕ} where
 
 -- ---- which of the six a word is
 
--- Of a word's 32 bits, those from bit k up are the highest.
-highest : (n k word : ℕ) → n + k ≡ 32 → word < 2 ^ 32 → slice k n word ≡ word / 2 ^ k
-highest n k word e small = mod-eq-of-lt (shr-lt n k (subst (λ (m : ℕ). word < 2 ^ m) (sym e) small))
-
 module _ (word : ℕ) (small : word < 2 ^ 32) where
+  -- The opcode is the highest bits of the 32.
   7-bits : opcode 1RI20 word ≡ word / 2 ^ 25
-  7-bits = highest 7 25 word refl small
+  7-bits = shr-mod 7 25 small
 
   10-bits : opcode 2RI12 word ≡ word / 2 ^ 22
-  10-bits = highest 10 22 word refl small
+  10-bits = shr-mod 10 22 small
 
   -- It is the instruction that its opcode alone would be.
   pub one-i20 : (o : ℕ) → word / 2 ^ 25 ≡ o → o < 2 ^ 7 → decoded (take 3 six) word ≡ decoded (take 3 six) (o * 2 ^ 25)
