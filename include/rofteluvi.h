@@ -140,7 +140,8 @@ rofteluvi_immediate rofteluvi_read_back(const uint8_t *section, size_t section_l
 
    Given a patched section that holds only lu12i.w, ori, lu32i.d, lu52i.d, patched by types 67 to 70 for one symbol and addend, all on one
    register that is not the first, and the section's address, that register then holds S+A. With pcalau12i and addi.d, patched by 71 and
-   72, it holds S+A exactly if the distance fits (see rofteluvi_patch), and else an address that is a multiple of 2^32 away. */
+   72, it holds S+A exactly if the distance fits (see rofteluvi_patch), and else an address that is a
+   non-zero multiple of 2^32 away. */
 rofteluvi_ran rofteluvi_run(const uint8_t *run, size_t run_len, uint64_t start, uint64_t registers[ROFTELUVI_REGISTERS]);
 
 #ifdef __cplusplus

@@ -566,7 +566,7 @@ static uint64_t pair_leads(uint64_t pc) {
 
 /* A pair at a PC with a target: its type in the one word, LO12 of the target in the other. */
 static void pair(uint32_t type, uint64_t pc, uint64_t gp, uint64_t target) {
-    uint64_t value[6], way = ((target + 0x800) & ~(uint64_t)0xfff) - (pc & ~(uint64_t)0xfff);
+    uint64_t value[6];
     start(pc, 0x1a000004);
     draft_word(&d, 0x02c00084);
     d.gp = gp;
@@ -577,8 +577,7 @@ static void pair(uint32_t type, uint64_t pc, uint64_t gp, uint64_t target) {
     record(4, 72, 0, target);
     expect("a pair", 0, 2);
     uint64_t past = pair_leads(pc) - target;
-    int fits = way + 0x80000000 < 0x100000000;
-    if (fits ? past != 0 : past == 0 || past % 0x100000000 != 0)
+    if (reference_reaches(pc, target) ? past != 0 : past == 0 || past % 0x100000000 != 0)
         compare_fail(&before, "a pair does not lead where it should");
 }
 

@@ -14,7 +14,7 @@ static uint64_t at_place[NUMBERS][2049];      /* calls by number and place */
 static uint64_t at_half_a_page[TYPES][2];     /* records of accepted calls whose target's low 12 bits are 7ffh, 800h */
 
 enum { INSTRUCTIONS = 6 };
-static uint64_t run_calls, longest_run, too_long_by_a_word, too_long_by_a_byte;
+static uint64_t run_calls, longest_runs, too_long_by_a_word, too_long_by_a_byte;
 static uint64_t by_instruction[INSTRUCTIONS][ROFTELUVI_REGISTERS]; /* words that were run, by kind and rd */
 static uint64_t stopped_after[5];                                   /* runs that 19 ended: by the bytes that were left, 4 for a word */
 
@@ -71,8 +71,7 @@ void coverage_run(const uint8_t *run, size_t run_len, rofteluvi_ran ran) {
         uint32_t word = run[4 * i] | (uint32_t)run[4 * i + 1] << 8 | (uint32_t)run[4 * i + 2] << 16 | (uint32_t)run[4 * i + 3] << 24;
         by_instruction[reference_instruction(word)][word & 31]++;
     }
-    if (ran.number == ROFTELUVI_ACCEPTED && ran.place > longest_run)
-        longest_run = ran.place;
+    longest_runs += ran.number == ROFTELUVI_ACCEPTED && ran.place == ROFTELUVI_RUN_WORDS_MAX;
     if (ran.number == ROFTELUVI_UNKNOWN_WORD) {
         size_t rest = run_len - 4 * (size_t)ran.place;
         stopped_after[rest < 4 ? rest : 4]++;
@@ -134,7 +133,7 @@ static uint32_t last_place(uint32_t number) {
     }
 }
 
-/* Each instruction with each register written, each way to stop, and a run as long as can be. */
+/* Each instruction with each register written, each way to stop, runs as long as can be, and each kind of sequence. */
 static unsigned runs_missing(void) {
     unsigned missing = 0;
     for (unsigned kind = 0; kind < INSTRUCTIONS; kind++)
@@ -153,8 +152,8 @@ static unsigned runs_missing(void) {
             printf("not met: 1000 patched sequences that were run, of kind %u (%" PRIu64 ")\n", which, sequences[which]);
             missing++;
         }
-    if (longest_run != ROFTELUVI_RUN_WORDS_MAX || too_long_by_a_word == 0 || too_long_by_a_byte == 0) {
-        printf("not met: runs of 4096 words, of a byte more and of a word more\n");
+    if (longest_runs < 10 || too_long_by_a_word == 0 || too_long_by_a_byte == 0) {
+        printf("not met: 10 runs of 4096 words, one of a byte more and one of a word more\n");
         missing++;
     }
     return missing;

@@ -303,6 +303,10 @@ uint64_t reference_target(const struct call *call, const struct record *r) {
     return target(r->type, value, r->addend, call->gp);
 }
 
+int reference_reaches(uint64_t pc, uint64_t target) {
+    return upper_part(target) - without_low_12(pc) + 0x80000000 < 0x100000000;
+}
+
 static int64_t take(struct stack *stack) {
     return stack->entry[--stack->depth];
 }

@@ -52,6 +52,9 @@ int reference_takes_upper_part(uint32_t type);
 /* The target of a record of such a type, whose value is there: S+A, GP+G, GP+IE or GP+GD. */
 uint64_t reference_target(const struct call *call, const struct record *r);
 
+/* Whether pcalau12i at a PC, and addi.d after it, reach a target: the distance that 71 splits fits 32 bits signed. */
+int reference_reaches(uint64_t pc, uint64_t target);
+
 /* The record at an index, taken apart. */
 struct record reference_record(const uint8_t *records, size_t index);
 

@@ -156,11 +156,13 @@ static uint32_t random_word(void) {
     }
 }
 
+/* Mostly short, with a bit of an opcode turned over here and there; some as long as can be, and then with none, so that all is run. */
 void runs_random(void) {
-    size_t words = random_below(1000) == 0 ? ROFTELUVI_RUN_WORDS_MAX - random_below(2) : random_below(30);
+    int whole = random_below(500) == 0;
+    size_t words = whole ? ROFTELUVI_RUN_WORDS_MAX - random_below(2) : random_below(30);
     run_len = 0;
     for (size_t i = 0; i < words; i++)
-        word(random_word() ^ (random_below(60) == 0 ? (uint32_t)1 << (22 + random_below(10)) : 0));
+        word(random_word() ^ (!whole && random_below(60) == 0 ? (uint32_t)1 << (22 + random_below(10)) : 0));
     if (random_below(8) == 0) {
         word(random_word());
         run_len -= 1 + random_below(3);
@@ -219,7 +221,6 @@ static void load(uint32_t k, uint64_t target, uint64_t addend) {
 }
 
 static void pair(uint32_t k, uint64_t target, uint64_t addend) {
-    uint64_t way = ((target + 0x800) & ~(uint64_t)0xfff) - (d.address & ~(uint64_t)0xfff);
     unpatched(with_i20(PCALAU12I, k, 0), 0x1ffffe0);
     unpatched(with_i12(ADDI_D, k, k, 0), 0x3ffc00);
     if (random_below(2) == 0) {
@@ -230,7 +231,7 @@ static void pair(uint32_t k, uint64_t target, uint64_t addend) {
         patch(0, 71, addend);
     }
     uint64_t past = points(k) - target;
-    int fits = way + 0x80000000 < 0x100000000;
+    int fits = reference_reaches(d.address, target);
     coverage_sequence(fits ? WITHIN_REACH : PAST_REACH);
     if (fits ? past != 0 : past == 0 || past % 0x100000000 != 0)
         compare_fail(&before, "pcalau12i and addi.d do not point where they should");

@@ -26,16 +26,16 @@ use Rattle.executor.specs.Runs.{outcomeOf, Runs}
 -- ---- the bits of what they write
 
 -- Bits shifted up that stay below 2 ^ 64.
-pub shifted : (j k : ℕ) {x y : ℕ} → x ≡ y → x < 2 ^ j → j + k ≤ 64 → x * 2 ^ k % 2 ^ 64 ≡ y * 2 ^ k
+shifted : (j k : ℕ) {x y : ℕ} → x ≡ y → x < 2 ^ j → j + k ≤ 64 → x * 2 ^ k % 2 ^ 64 ≡ y * 2 ^ k
 shifted j k e small fits = shl-exact j k 64 small fits ∙ ap (λ (z : ℕ). z * 2 ^ k) e
 
 -- Bits from bit k up, above the low k bits of a number.
-pub above : (k high own : ℕ) → bitOr (high * 2 ^ k) (bitAnd own (2 ^ k - 1)) ≡ high * 2 ^ k + slice 0 k own
+above : (k high own : ℕ) → bitOr (high * 2 ^ k) (bitAnd own (2 ^ k - 1)) ≡ high * 2 ^ k + slice 0 k own
 above k high own =
     ap (bitOr (high * 2 ^ k)) (and-mask own k) ∙ or-shifted high k (own % 2 ^ k) (mod-lt own (pow-pos k)) ∙ rw div-one refl
 
 -- 20 bits as signed, from bit 32 up: what the shift pushes out are copies of the sign.
-pub upper-half : (x : ℕ) → x < 2 ^ 20 → SignExtend 20 x 64 * 2 ^ 32 % 2 ^ 64 ≡ SignExtend 20 x 32 * 2 ^ 32
+upper-half : (x : ℕ) → x < 2 ^ 20 → SignExtend 20 x 64 * 2 ^ 32 % 2 ^ 64 ≡ SignExtend 20 x 32 * 2 ^ 32
 upper-half x small = go (ltb x (2 ^ 19)) refl
   where
     go : (b : Bool) → ltb x (2 ^ 19) ≡ b → SignExtend 20 x 64 * 2 ^ 32 % 2 ^ 64 ≡ SignExtend 20 x 32 * 2 ^ 32

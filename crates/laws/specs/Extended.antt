@@ -10,13 +10,13 @@ use borrow.Author.Tests.{ltb-true, ltb-false, le-ltb}
 use lib.Bits.{bitOr, or-shifted}
 use lib.Dec.{ltb}
 use lib.IntN.{ℤ, pos, negsuc}
-use lib.Pow.{pow-pos, pow-mono, mod-pow-add, field, high, low, shl-lt, shl-shr, not-mod}
+use lib.Pow.{pow-pos, pow-mono, mod-pow-add, field, high, low, shl-lt, shl-shr}
 use lib.Signed.{mag}
 use Rattle.meaning.specs.Numbers.{plus, cleared, signed, bitsOf}
 use Rattle.meaning.specs.Field.{slice}
 use Rattle.meaning.specs.Executor.{SignExtend}
-use Rattle.laws.specs.FieldBack.{low-mod, restored, signed-low}
-use Rattle.laws.specs.Pair.{FitsSigned}
+use Rattle.laws.specs.FieldBack.{low-mod, restored, negative-low, signed-low}
+use Rattle.laws.specs.Pair.{FitsSigned, reached}
 
 -- ---- sign extension
 
@@ -28,12 +28,8 @@ module _ (n w x : ℕ) (fits : n ≤ w) (small : x < 2 ^ n) where
       go : (b : Bool) → ltb x (2 ^ (n - 1)) ≡ b → bitsOf w (cond b (pos x) (negsuc (2 ^ n - suc x))) % 2 ^ n ≡ x
       go true e = mod-eq-of-lt small
       go false e =
-          let a : ℕ = 2 ^ n - suc x in
-          let less : a < 2 ^ n = omega arith in
-          let d : w - n + n ≡ w = omega arith in
-          let c : 2 ^ w - suc a ≡ 2 ^ w - 1 - a = omega arith in
-          let back : 2 ^ n - 1 - a ≡ x = omega arith in
-          ap (λ (y : ℕ). y % 2 ^ n) c ∙ subst (λ (j : ℕ). (2 ^ j - 1 - a) % 2 ^ n ≡ 2 ^ n - 1 - a) d (not-mod (w - n) n less) ∙ back
+          let back : 2 ^ n - suc (2 ^ n - suc x) ≡ x = omega arith in
+          negative-low w n (2 ^ n - suc x) fits (omega arith) ∙ back
 
   -- They are w bits.
   extended-below : SignExtend n x w < 2 ^ w
@@ -146,10 +142,6 @@ clear-late a b zeros = omega arith
 abbrev pub upper : ℕ → ℕ
 upper d = SignExtend 32 (slice 12 20 d * 2 ^ 12) 64
 
--- Where the pair leads if this is added to PC's page, and n to that.
-abbrev pub lands : ℕ → ℕ → ℕ → ℕ
-lands pc n far = plus 64 (plus 64 (cleared 12 pc) far) n
-
 module _ (pc d n : ℕ) (zeros : d % 2 ^ 12 ≡ 0) (below : d < 2 ^ 64) where
   abbrev split : ℕ
   split = slice 12 20 d * 2 ^ 12
@@ -167,7 +159,7 @@ module _ (pc d n : ℕ) (zeros : d % 2 ^ 12 ≡ 0) (below : d < 2 ^ 64) where
       (sym (low-mod 12 32 (upper d) (omega arith)) ∙ ap (λ (y : ℕ). y % 2 ^ 12) upper-low ∙ low-mod 12 32 d (omega arith) ∙ zeros)
 
   -- If it leads where the whole distance leads, the distance fits.
-  pub fits-if : lands pc n (upper d) ≡ lands pc n d → FitsSigned 32 (signed 64 d)
+  pub fits-if : reached 64 pc (upper d) n ≡ reached 64 pc d n → FitsSigned 32 (signed 64 d)
   fits-if e =
       let z : ℤ = signed 32 split in
       let small-upper = extended-below 32 64 split (omega arith) short in
@@ -177,7 +169,7 @@ module _ (pc d n : ℕ) (zeros : d % 2 ^ 12 ≡ 0) (below : d < 2 ^ 64) where
       subst (FitsSigned 32) (sym back ∙ ap (signed 64) same) fits
 
   -- Its low 32 bits are those of where the whole distance leads.
-  pub same-low-32 : lands pc n (upper d) % 2 ^ 32 ≡ lands pc n d % 2 ^ 32
+  pub same-low-32 : reached 64 pc (upper d) n % 2 ^ 32 ≡ reached 64 pc d n % 2 ^ 32
   same-low-32 =
       same-low (plus 64 (cleared 12 pc) (upper d)) (plus 64 (cleared 12 pc) d) n
       (ap (λ (y : ℕ). y % 2 ^ 64 % 2 ^ 32) (add-comm (cleared 12 pc) (upper d))

@@ -137,6 +137,14 @@ pow-split n k h =
     let e : n ≡ n - k + k = omega arith in
     ap (λ (j : ℕ). 2 ^ j) e ∙ pow-add 2 (n - k) k
 
+-- The low n of the w bits of a number below 0, where n bits hold it.
+pub negative-low : (w n a : ℕ) → n ≤ w → a < 2 ^ n → (2 ^ w - suc a) % 2 ^ n ≡ 2 ^ n - suc a
+negative-low w n a most small =
+    let d : w - n + n ≡ w = omega arith in
+    let c : 2 ^ w - suc a ≡ 2 ^ w - 1 - a = omega arith in
+    let b : 2 ^ n - 1 - a ≡ 2 ^ n - suc a = omega arith in
+    ap (λ (y : ℕ). y % 2 ^ n) c ∙ subst (λ (j : ℕ). (2 ^ j - 1 - a) % 2 ^ n ≡ 2 ^ n - 1 - a) d (not-mod (w - n) n small) ∙ b
+
 -- The low n of a number's w bits, where n bits hold it, read as signed, are the number.
 pub signed-low : (w n : ℕ) (z : ℤ) → 1 ≤ n → n ≤ w → mag z < 2 ^ (n - 1) → signed n (bitsOf w z % 2 ^ n) ≡ z
 signed-low w n (pos a) one most small =
@@ -146,13 +154,9 @@ signed-low w n (pos a) one most small =
 signed-low w n (negsuc a) one most small =
     let e = pow-split n 1 one in
     let l : a < 2 ^ n = omega arith in
-    let d : w - n + n ≡ w = omega arith in
-    let c : 2 ^ w - suc a ≡ 2 ^ w - 1 - a = omega arith in
-    let m : (2 ^ w - suc a) % 2 ^ n ≡ 2 ^ n - 1 - a =
-    ap (λ (y : ℕ). y % 2 ^ n) c ∙ subst (λ (j : ℕ). (2 ^ j - 1 - a) % 2 ^ n ≡ 2 ^ n - 1 - a) d (not-mod (w - n) n l) in
-    let high : 2 ^ (n - 1) ≤ 2 ^ n - 1 - a = omega arith in
-    let back : 2 ^ n - suc (2 ^ n - 1 - a) ≡ a = omega arith in
-    rw (m, le-ltb (2 ^ n - 1 - a) (2 ^ (n - 1)) high) (ap negsuc back)
+    let high : 2 ^ (n - 1) ≤ 2 ^ n - suc a = omega arith in
+    let back : 2 ^ n - suc (2 ^ n - suc a) ≡ a = omega arith in
+    rw (negative-low w n a most l, le-ltb (2 ^ n - suc a) (2 ^ (n - 1)) high) (ap negsuc back)
 
 -- A signed number of n bits above k zeros.
 pub signed-back : (w k n : ℕ) (z : ℤ) → 1 ≤ n → n + k ≤ w → bitsOf w z % 2 ^ k ≡ 0 → mag z < 2 ^ (n + k - 1) →

@@ -35,10 +35,14 @@ pub record FitsSigned (n : ℕ) (z : ℤ) : Type 0 where
   pub not-above : ltZ (pos (2 ^ (n - 1) - 1)) z ≡ false
   pub not-below : ltZ z (neg (2 ^ (n - 1))) ≡ false
 
+-- What is reached from a PC, if m is added to its page, and n to that.
+abbrev pub reached : ℕ → ℕ → ℕ → ℕ → ℕ
+reached w pc m n = plus w (plus w (cleared 12 pc) m) n
+
 -- Where the pair leads from a PC, by the fields of its words: the 20 bits shifted up by 12 are added to PC's page, and the 12 bits to
 -- that, both read as signed.
 abbrev pub leads : ℕ → ℕ → ℕ → ℕ → ℕ
-leads w pc upper low = plus w (plus w (cleared 12 pc) (bitsOf w (signed 32 (upper * 2 ^ 12)))) (bitsOf w (signed 12 low))
+leads w pc upper low = reached w pc (bitsOf w (signed 32 (upper * 2 ^ 12))) (bitsOf w (signed 12 low))
 
 -- ---- the laws, modulo 2 ^ w
 
@@ -128,7 +132,7 @@ module _ (c : Setting) (r : Record) (x : Sum) (wide-enough : 32 ≤ c .card .wid
 
   -- The whole distance, and the low 12 bits, always lead there.
   pub distance-lands : sum c r x < 2 ^ c .card .width →
-      plus (c .card .width) (plus (c .card .width) (cleared 12 (PC c r)) (formula c r (pages x))) (bitsOf (c .card .width) (signed 12 (slice 0 12 (sum c r x)))) ≡ sum c r x
+      reached (c .card .width) (PC c r) (formula c r (pages x)) (bitsOf (c .card .width) (signed 12 (slice 0 12 (sum c r x)))) ≡ sum c r x
   distance-lands below =
       let upper : ℕ = cleared 12 (plus w (sum c r x) 0x800) in
       let low : ℤ = signed 12 (sum c r x % 4096) in
@@ -140,7 +144,7 @@ module _ (c : Setting) (r : Record) (x : Sum) (wide-enough : 32 ≤ c .card .wid
   pub pair-lands : sum c r x < 2 ^ c .card .width → FitsSigned 32 (signed (c .card .width) (formula c r (pages x))) →
       leads (c .card .width) (PC c r) (slice 12 20 (formula c r (pages x))) (slice 0 12 (sum c r x)) ≡ sum c r x
   pair-lands below fits =
-      ap (λ (d : ℕ). plus w (plus w (cleared 12 (PC c r)) d) (bitsOf w (signed 12 (slice 0 12 (sum c r x))))) (field-is fits) ∙ distance-lands below
+      ap (λ (d : ℕ). reached w (PC c r) d (bitsOf w (signed 12 (slice 0 12 (sum c r x))))) (field-is fits) ∙ distance-lands below
 
 -- ---- the five types
 

@@ -17,9 +17,9 @@ use Rattle.meaning.specs.Executor.{lu12i-w, lu32i-d, pcalau12i, lu52i-d, addi-d
 use Rattle.lemmas.specs.Modulo.{bits-signed}
 use Rattle.laws.specs.Bits.{wordAt}
 use Rattle.laws.specs.ReadBack.{WordUntouched, bits-read}
-use Rattle.laws.specs.Pair.{FitsSigned, whole-pages, distance-lands, pair-lands}
+use Rattle.laws.specs.Pair.{FitsSigned, reached, whole-pages, distance-lands, pair-lands}
 use Rattle.laws.specs.Words.{Holds, after, runs-through, again}
-use Rattle.laws.specs.Extended.{first-two, first-three, all-four, MultipleAway, apart, upper, lands, cleared-sum, fits-if, same-low-32}
+use Rattle.laws.specs.Extended.{first-two, first-three, all-four, MultipleAway, apart, upper, cleared-sum, fits-if, same-low-32}
 
 -- ---- the call
 
@@ -40,8 +40,8 @@ pub record Patched (c : Call) (records : List ℕ) (symbol addend type place : �
   pub with-addend : r .addend ≡ addend
   pub last : WordUntouched (c .setting) later (r .offset)
 
--- What a run of pcalau12i and addi.d comes to, for this distance and this target: it is accepted, register k holds an address, and the other
--- registers are as they came. The address is the target exactly where the distance fits 32 bits signed.
+-- What a run of pcalau12i and addi.d comes to, for this distance and this target: it is accepted, register k holds an address, the first is
+-- 0, and the others are as they came. The address is the target exactly where the distance fits 32 bits signed.
 pub record Points (distance target k : ℕ) (registers : List ℕ) (r : Ran) : Type 0 where
   pub address : ℕ
   pub run : r ≡ ran 0 2 (written (first-zero registers) k address)
@@ -135,8 +135,8 @@ module _ (s values records : List ℕ) (address gp symbol addend : ℕ) where
           let on1 = h .words .1 .0 .1 in
           let low = room (wordAt 0 section) on0 in
           let here : plus 64 address 0 ≡ pc = ap (plus 64 address) (sym (p71 .at-place)) in
-          let at-x : ℕ → ℕ → ℕ = λ far y. lands pc (SignExtend 12 (slice 0 12 y) 64) far in
-          let lands-there : lands pc n d ≡ x =
+          let at-x : ℕ → ℕ → ℕ = λ far y. reached 64 pc far (SignExtend 12 (slice 0 12 y) 64) in
+          let lands-there : reached 64 pc d n ≡ x =
           ap (at-x d) (sym (sum-is p71)) ∙ distance-lands setting r S+A (omega arith) (mod-lt _ (pow-pos 64)) ∙ sum-is p71 in
           let e1 =
           ap₂ (λ (j i : ℕ). written start j (cleared 12 (plus 64 (plus 64 address 0) (SignExtend 32 (i * 2 ^ 12) 64)))) on0
@@ -144,17 +144,17 @@ module _ (s values records : List ℕ) (address gp symbol addend : ℕ) where
           ∙ ap (λ (y : ℕ). written start k (cleared 12 (plus 64 y (upper d)))) here
           ∙ ap (written start k) (cleared-sum pc d n zeros below) in
           let e2 = again start k other low (λ i y. plus 64 y (SignExtend 12 i 64)) (plus 64 (cleared 12 pc) (upper d)) e1 (on1 .0) (on1 .1) (target-brings p72 11 0 21 10 refl) in
-          let fits-so : lands pc n (upper d) ≡ x → FitsSigned 32 (signed 64 d) = λ e. fits-if pc d n zeros below (e ∙ sym lands-there) in
+          let fits-so : reached 64 pc (upper d) n ≡ x → FitsSigned 32 (signed 64 d) = λ e. fits-if pc d n zeros below (e ∙ sym lands-there) in
           record {
-            address = lands pc n (upper d);
+            address = reached 64 pc (upper d) n;
             run = runs-through k address section (pcalau12i ∷ addi-d ∷ []) registers h (omega (arith, h .only)) ∙ ap (ran 0 2) e2;
             exactly = (fits-so, λ fits. ap (at-x (upper d)) (sym (sum-is p71)) ∙ pair-lands setting r S+A (omega arith) (mod-lt _ (pow-pos 64)) fits ∙ sum-is p71);
-            otherwise = λ no. apart (lands pc n (upper d)) x (same-low-32 pc d n zeros below ∙ ap (λ (y : ℕ). y % 2 ^ 32) lands-there) (λ e. no (fits-so e));
+            otherwise = λ no. apart (reached 64 pc (upper d) n) x (same-low-32 pc d n zeros below ∙ ap (λ (y : ℕ). y % 2 ^ 32) lands-there) (λ e. no (fits-so e));
           }
 
 -- ---- the theorems
 
--- The four instructions that the types 67 to 70 patched load S+A: register k holds it, and the other registers are as they came.
+-- The four instructions that the types 67 to 70 patched load S+A: register k holds it, the first is 0, and the others are as they came.
 pub four-load : (s values records : List ℕ) (address gp symbol addend : ℕ) →
     let c = call s values address gp in
     answerOf c records .number ≡ 0 →

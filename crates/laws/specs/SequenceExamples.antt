@@ -39,7 +39,11 @@ the c records before later offset type addend e last =
 
 -- ---- the four
 
--- lu12i.w $a0, 0; ori $a0, $a0, 0; lu32i.d $a0, 0; lu52i.d $a0, $a0, 0: at address 12340004h, with the target 123cba9887654fedh (67 to 70)
+-- the target: each of its four parts has its top bit set, but the highest
+abbrev pub asked : ℕ
+asked = 0x123cba9887654fed
+
+-- lu12i.w $a0, 0; ori $a0, $a0, 0; lu32i.d $a0, 0; lu52i.d $a0, $a0, 0: at address 12340004h, to be patched by 67 to 70
 pub load : List ℕ
 load = bytesOf 4 0x14000004 ++ (bytesOf 4 0x03800084 ++ (bytesOf 4 0x16000004 ++ bytesOf 4 0x03000084))
 
@@ -48,8 +52,8 @@ load-call = call load [] 0x12340004 0
 
 pub load-records : List ℕ
 load-records =
-    record-bytes 0 67 0x123cba9887654fed ++
-    (record-bytes 4 68 0x123cba9887654fed ++ (record-bytes 8 69 0x123cba9887654fed ++ record-bytes 12 70 0x123cba9887654fed))
+    record-bytes 0 67 asked ++
+    (record-bytes 4 68 asked ++ (record-bytes 8 69 asked ++ record-bytes 12 70 asked))
 
 -- lu12i.w $a0, 87654h; ori $a0, $a0, fedh; lu32i.d $a0, cba98h; lu52i.d $a0, $a0, 123h
 pub load-patched : (answerOf load-call load-records ≡ answer 0 4) ×
@@ -62,36 +66,36 @@ unfolding six decoded number bytesOf
 load-words = rw (load-patched .1) record { only = refl; words = ((refl, refl), ((refl, (refl, refl)), ((refl, refl), ((refl, (refl, refl)), tt)))) }
 
 -- The records after each of them write no byte of its word.
-pub at-0 : Patched load-call load-records 0 0x123cba9887654fed 67 0
+pub at-0 : Patched load-call load-records 0 asked 67 0
 unfolding load-call load-records record-bytes number bytesOf cut record-at
 at-0 =
-    the load-call load-records [] (record-at 4 68 0x123cba9887654fed ∷ record-at 8 69 0x123cba9887654fed ∷ record-at 12 70 0x123cba9887654fed ∷ []) 0 67
-    0x123cba9887654fed refl (λ i a b. (inl (omega arith), (inl (omega arith), (inl (omega arith), tt))))
+    the load-call load-records [] (record-at 4 68 asked ∷ record-at 8 69 asked ∷ record-at 12 70 asked ∷ []) 0 67
+    asked refl (λ i a b. (inl (omega arith), (inl (omega arith), (inl (omega arith), tt))))
 
-pub at-4 : Patched load-call load-records 0 0x123cba9887654fed 68 4
+pub at-4 : Patched load-call load-records 0 asked 68 4
 unfolding load-call load-records record-bytes number bytesOf cut record-at
 at-4 =
-    the load-call load-records (record-at 0 67 0x123cba9887654fed ∷ []) (record-at 8 69 0x123cba9887654fed ∷ record-at 12 70 0x123cba9887654fed ∷ []) 4 68
-    0x123cba9887654fed refl (λ i a b. (inl (omega arith), (inl (omega arith), tt)))
+    the load-call load-records (record-at 0 67 asked ∷ []) (record-at 8 69 asked ∷ record-at 12 70 asked ∷ []) 4 68
+    asked refl (λ i a b. (inl (omega arith), (inl (omega arith), tt)))
 
-pub at-8 : Patched load-call load-records 0 0x123cba9887654fed 69 8
+pub at-8 : Patched load-call load-records 0 asked 69 8
 unfolding load-call load-records record-bytes number bytesOf cut record-at
 at-8 =
-    the load-call load-records (record-at 0 67 0x123cba9887654fed ∷ record-at 4 68 0x123cba9887654fed ∷ []) (record-at 12 70 0x123cba9887654fed ∷ []) 8 69
-    0x123cba9887654fed refl (λ i a b. (inl (omega arith), tt))
+    the load-call load-records (record-at 0 67 asked ∷ record-at 4 68 asked ∷ []) (record-at 12 70 asked ∷ []) 8 69
+    asked refl (λ i a b. (inl (omega arith), tt))
 
-pub at-12 : Patched load-call load-records 0 0x123cba9887654fed 70 12
+pub at-12 : Patched load-call load-records 0 asked 70 12
 unfolding load-call load-records record-bytes number bytesOf cut record-at
 at-12 =
-    the load-call load-records (record-at 0 67 0x123cba9887654fed ∷ record-at 4 68 0x123cba9887654fed ∷ record-at 8 69 0x123cba9887654fed ∷ []) [] 12 70
-    0x123cba9887654fed refl (λ i a b. tt)
+    the load-call load-records (record-at 0 67 asked ∷ record-at 4 68 asked ∷ record-at 8 69 asked ∷ []) [] 12 70
+    asked refl (λ i a b. tt)
 
 -- So $a0, register 4, is loaded with the target, whatever the registers held.
 pub load-example : (registers : List ℕ) → length registers ≡ 32 →
-    runOf (sectionOf load-call load-records load) 0x12340004 registers ≡ ran 0 4 (written (first-zero registers) 4 0x123cba9887654fed)
+    runOf (sectionOf load-call load-records load) 0x12340004 registers ≡ ran 0 4 (written (first-zero registers) 4 asked)
 unfolding load-call number bytesOf
 load-example registers all =
-    four-load load [] load-records 0x12340004 0 0 0x123cba9887654fed (ap (λ (a : Answer). a .number) (load-patched .0)) at-0 at-4 at-8 at-12 4 registers
+    four-load load [] load-records 0x12340004 0 0 asked (ap (λ (a : Answer). a .number) (load-patched .0)) at-0 at-4 at-8 at-12 4 registers
     (λ e. omega arith) all load-words
 
 -- ---- the pair, within the reach

@@ -7,9 +7,8 @@ use mathlib.Core.Path.{_≡_, refl, sym, ap, ap₂, _∙_}
 use borrow.Author.Tests.{le-ltb}
 use lib.ListN.{length, set}
 use lib.Seq.{getD-set-same, getD-set-other}
-use Rattle.meaning.specs.Numbers.{plus}
-use Rattle.meaning.specs.Executor.{Instruction, lu12i-w, lu32i-d, pcalau12i, lu52i-d, addi-d, ori, rj, rd, six, decoded}
-use Rattle.meaning.specs.Executor.{GR, first-zero, written, step, ran, runLimit, ranFrom, runOf}
+use Rattle.meaning.specs.Executor.{Instruction, lu12i-w, lu32i-d, lu52i-d, ori, addi-d, pcalau12i, rj, rd, six, decoded}
+use Rattle.meaning.specs.Executor.{GR, first-zero, written, ran, runLimit, ranFrom, runOf}
 use Rattle.lemmas.specs.Pieces.{piecesFrom, from-start, from-end}
 use Rattle.lemmas.specs.Words.{registersAfter, whole-word, ran-at}
 use Rattle.laws.specs.Bits.{wordAt}
@@ -20,10 +19,10 @@ use Rattle.laws.specs.Bits.{wordAt}
 abbrev pub On : ℕ → Instruction → ℕ → Type 0
 On k lu12i-w word = rd word ≡ k
 On k lu32i-d word = rd word ≡ k
-On k pcalau12i word = rd word ≡ k
 On k lu52i-d word = (rd word ≡ k) × (rj word ≡ k)
-On k addi-d word = (rd word ≡ k) × (rj word ≡ k)
 On k ori word = (rd word ≡ k) × (rj word ≡ k)
+On k addi-d word = (rd word ≡ k) × (rj word ≡ k)
+On k pcalau12i word = rd word ≡ k
 
 -- From word i on, the words are these instructions, all on register k.
 abbrev pub WordsAre : ℕ → List Instruction → ℕ → List ℕ → Type 0
@@ -40,7 +39,7 @@ pub record Holds (k : ℕ) (all : List Instruction) (s : List ℕ) : Type 0 wher
 -- The registers after these instructions, from word i on.
 unfoldable pub after : List Instruction → ℕ → ℕ → List ℕ → List ℕ → List ℕ
 after [] start i s registers = registers
-after (ins ∷ more) start i s registers = after more start (suc i) s (step (plus 64 start (4 * i)) ins (wordAt (4 * i) s) registers)
+after (ins ∷ more) start i s registers = after more start (suc i) s (registersAfter s start i registers ins)
 
 module _ (k start : ℕ) (s : List ℕ) (n : ℕ) (long : length s ≡ 4 * n) where
   from-word : (all : List Instruction) (i : ℕ) (registers : List ℕ) → i + length all ≡ n → WordsAre k all i s →
@@ -77,7 +76,7 @@ written-twice (r ∷ registers) zero x y = refl
 written-twice (r ∷ registers) (suc k) x y = ap (λ (l : List ℕ). 0 ∷ l) (set-twice registers k x y)
 
 -- What was written to a register that is not the first stands there.
-pub stands : (registers : List ℕ) (k x : ℕ) → (k ≡ 0 → ⊥) → k < length registers → GR (written registers k x) k ≡ x
+stands : (registers : List ℕ) (k x : ℕ) → (k ≡ 0 → ⊥) → k < length registers → GR (written registers k x) k ≡ x
 stands registers k x other low = getD-set-other (set registers k x) 0 k 0 0 other ∙ getD-set-same registers k x 0 low
 
 -- An instruction that reads the register, in which x stands, and writes to it again, by an immediate that is known.

@@ -42,6 +42,7 @@ holds e =
     eqb (a .number) (e .number) && eqb (a .place) (e .place) && eqb (a .offset) (e .offset) &&
     same (sectionOf c (e .records) (e .section)) (e .left)
 
-unfoldable pub allHold : List Case → Bool
-allHold [] = true
-allHold (e ∷ es) = holds e && allHold es
+-- a test that all of a table pass
+unfoldable pub allHold : {A : Type 0} → (A → Bool) → List A → Bool
+allHold test [] = true
+allHold test (e ∷ es) = test e && allHold test es

@@ -101,6 +101,6 @@ edges =
     from-12340004 73 0x1fffff000 0x800 (1 * 2 ^ 5) ∷
     []
 
-pub edges-hold : T (allHold edges)
+pub edges-hold : T (allHold holds edges)
 unfolding allHold holds edges gives refused from-12340004 same rela rowS push minus number bytesOf cut table look put first ofRecords ofMasks checks patched
 edges-hold = tt

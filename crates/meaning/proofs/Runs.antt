@@ -1,12 +1,12 @@
 -- Runs of the executor, together as one table, and one computed test of it: the edges of each instruction, and of a run.
 use Prim.Native.Nat.{ℕ}
-use mathlib.Core.Bool.{Bool, true, _&&_}
+use mathlib.Core.Bool.{Bool, _&&_}
 use mathlib.Core.List.{List, [], _∷_, _++_}
 use lib.Dec.{T, eqb}
 use lib.ListN.{set, replicate}
 use Rattle.meaning.specs.Numbers.{number, bytesOf, cut}
 use Rattle.meaning.specs.Executor.{six, decoded, ranFrom, runOf}
-use Rattle.meaning.proofs.Cases.{minus, same}
+use Rattle.meaning.proofs.Cases.{minus, same, allHold}
 
 -- A run from registers that hold 7 at the start, the first of them too, and what it must answer and leave.
 pub record Run : Type 0 where
@@ -20,10 +20,6 @@ pub holds : Run → Bool
 holds e =
     let r = runOf (e .bytes) (e .start) (replicate 32 7) in
     eqb (r .number) (e .number) && eqb (r .place) (e .place) && same (r .registers) (e .left)
-
-pub allHold : List Run → Bool
-allHold [] = true
-allHold (e ∷ es) = holds e && allHold es
 
 -- the bytes of words
 pub words : List ℕ → List ℕ
@@ -88,6 +84,6 @@ runs =
     refused (replicate 16384 0) 19 0 sevens ∷
     []
 
-pub runs-hold : T (allHold runs)
+pub runs-hold : T (allHold holds runs)
 unfolding allHold holds runs gives refused sevens words same minus number bytesOf cut six decoded ranFrom
 runs-hold = tt

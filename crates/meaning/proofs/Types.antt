@@ -214,7 +214,7 @@ caseOf l =
       left = l .left;
     }
 
-pub types-hold : T (allHold (map caseOf types))
+pub types-hold : T (allHold holds (map caseOf types))
 unfolding allHold holds caseOf types accepted direct pushed popped operated duplicated asserted idle loaders words plain bare pushAll seen same rela push minus number bytesOf cut table look put first ofRecords ofMasks checks patched
 types-hold = tt
 

@@ -10,7 +10,7 @@ use Rattle.meaning.specs.Numbers.{number, plus, cleared, signed, bitsOf,
 use Rattle.meaning.specs.Field.{slice}
 
 pub data Instruction : Type 0 where
-  lu12i-w lu32i-d pcalau12i lu52i-d addi-d ori : Instruction
+  lu12i-w lu32i-d lu52i-d ori addi-d pcalau12i : Instruction
 
 -- ---- which bits of a word say what
 
@@ -34,7 +34,7 @@ rj word = slice 5 5 word
 abbrev pub rd : ℕ → ℕ
 rd word = slice 0 5 word
 
--- The six, each with its format and its opcode, the bits of which stand above it.
+-- The six by their format, each with its opcode, the bits of which stand above it.
 pub data Code : Type 0 where
   code : Format → ℕ → Instruction → Code
 
@@ -84,14 +84,14 @@ abbrev pub result : Instruction → ℕ → ℕ → List ℕ → ℕ
 result lu12i-w pc word registers = SignExtend 32 (i20 word * 2 ^ 12) 64
 -- GR[rd] = {SignExtend(si20, 32), GR[rd][31:0]}
 result lu32i-d pc word registers = SignExtend 20 (i20 word) 32 * 2 ^ 32 + slice 0 32 (GR registers (rd word))
--- GR[rd] = {(PC + SignExtend({si20, 12'b0}, 64))[63:12], 12'b0}
-result pcalau12i pc word registers = cleared 12 (plus 64 pc (SignExtend 32 (i20 word * 2 ^ 12) 64))
 -- GR[rd] = {si12, GR[rj][51:0]}
 result lu52i-d pc word registers = i12 word * 2 ^ 52 + slice 0 52 (GR registers (rj word))
--- GR[rd] = (GR[rj] + SignExtend(si12, 64))[63:0]
-result addi-d pc word registers = plus 64 (GR registers (rj word)) (SignExtend 12 (i12 word) 64)
 -- GR[rd] = GR[rj] | ZeroExtend(ui12, 64)
 result ori pc word registers = bitOr (GR registers (rj word)) (i12 word)
+-- GR[rd] = (GR[rj] + SignExtend(si12, 64))[63:0]
+result addi-d pc word registers = plus 64 (GR registers (rj word)) (SignExtend 12 (i12 word) 64)
+-- GR[rd] = {(PC + SignExtend({si20, 12'b0}, 64))[63:12], 12'b0}
+result pcalau12i pc word registers = cleared 12 (plus 64 pc (SignExtend 32 (i20 word * 2 ^ 12) 64))
 
 abbrev pub step : ℕ → Instruction → ℕ → List ℕ → List ℕ
 step pc i word registers = written registers (rd word) (result i pc word registers)
