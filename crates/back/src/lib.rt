@@ -1,4 +1,7 @@
 // Read back: the immediate that a word holds, its low zeros restored and its sign as the type's accepted range has it.
+
+#![tactic(auto)]
+
 ghost use Rattle.std.specs.Prelude.{◌≡◌, not, true, [], ◌∷◌, ◌+◌};
 ghost use Rattle.meaning.specs.Call.{card64, semantics_on};
 ghost use Rattle.meaning.specs.Checks as C;
@@ -11,7 +14,7 @@ use sizes::SECTION_LIMIT;
 use table::*;
 
 // The immediate that a word holds, or a number of refusal: 1, 4, 8 or 9. Its place is always 0, and on refusal the number given is 0.
-#[derive(Drop)]
+#[derive(Clone, Copy)]
 pub enum Immediate {
     Value(i64),
     Refused(u32),

@@ -1,11 +1,13 @@
 // Bytes as numbers, little-endian: what a part of a slice holds, and storing a number's low bytes into one.
 // Eight bytes, and four, are read and stored by straight-line functions of their own: the compiler makes one load or one store of each, and of
 // a loop it does not.
+
+#![tactic(auto)]
+
 ghost use Rattle.std.specs.Prelude.{◌≡◌, ◌++◌, ◌+◌, ◌≤◌, ◌<◌, length, drop};
 ghost use Rattle.meaning.specs.Numbers.{bytes_of};
 ghost use Rattle.meaning.specs.Call.{u64};
 ghost use Rattle.bytes_le.specs.Little.{Little};
-
 // The byte, widened by a function, which leaves a reader no need that it fits.
 fn wide(x: u8) -> u64
     ensures { (result ≡ x) × (result < 256) }

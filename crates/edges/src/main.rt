@@ -1,6 +1,9 @@
 // Runs the edges of document 01 that are not proved as its table, and a few more. Each is a call of its own, on a section of one word 0, at
 // section address 0, with GP 0 and no value rows. Each prints a line: the edge, the number of refusal, the place, the offset and the word
 // afterwards. What the documents say to each stands in the file `stdout`, worked out from them and not from the program.
+
+#![tactic(auto)]
+
 ghost use Rattle.std.specs.Prelude.{◌≡◌, length};
 
 use libc::STDOUT_FILENO;
@@ -12,7 +15,7 @@ const LAST: u64 = u64::MAX;
 // The number whose four parts types 67 to 70 take out.
 const PARTS: i64 = 0x123456789abcdef0;
 
-#[derive(Drop)]
+#[derive(Clone, Copy)]
 struct Rela {
     offset: u64,
     rtype: u32,

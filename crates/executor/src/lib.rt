@@ -1,4 +1,7 @@
 // The executor: a run of words, carried out one after the other on 32 registers that the caller lends.
+
+#![tactic(auto)]
+
 ghost use Rattle.std.specs.Prelude.{◌≡◌, [], ℕ, ◌^◌, ◌≤◌, ◌<◌, take, drop};
 ghost use Rattle.meaning.specs.Executor as E;
 ghost use Rattle.executor.specs.Runs.{outcome_of, Runs};
@@ -6,14 +9,14 @@ ghost use Rattle.executor.specs.Runs.{outcome_of, Runs};
 use sizes::{REGISTERS, RUN_LIMIT};
 
 // Ended, with the number of words, or a number of refusal and its place.
-#[derive(Drop)]
+#[derive(Clone, Copy)]
 pub enum Ran {
     Ended(u32),
     Refused(u32, u32),
 }
 
 // What a word's instruction writes to rd, or that the word is none of the six.
-#[derive(Drop)]
+#[derive(Clone, Copy)]
 enum Outcome {
     Writes(u64),
     Unknown,

@@ -1,6 +1,8 @@
 // One part of a field, shifted and masked into an instruction word and out of it. A word is held in a u64, below 2 ^ 32, so that a part
 // as wide as the word needs no path of its own.
 
+#![tactic(auto)]
+
 ghost use Rattle.std.specs.Prelude.{◌≡◌, ◌+◌, ◌-◌, ◌^◌, ◌≤◌, ◌<◌};
 ghost use Rattle.meaning.specs.Field.{slice, splice};
 

@@ -1,4 +1,7 @@
 // The program's input: frames read into lent buffers.
+
+#![tactic(auto)]
+
 ghost use Rattle.std.specs.Prelude.{true, cond, ◌&&◌, ◌≡◌, ◌+◌, ◌-◌, ◌*◌, ◌/◌, ◌%◌, ◌≤◌, ◌<◌, eqb, ltb, leb, length, take, drop};
 ghost use Rattle.meaning.specs.Call.{card64};
 ghost use Rattle.meaning.specs.Checks.{section_limit, values_limit};
@@ -242,7 +245,7 @@ fn past(kind: u8, own: u8, used: usize, n: usize, limit: usize) -> bool
 }
 
 // What was read: the number of a refusal and its place, or 0; the two numbers; and how many bytes each buffer holds.
-#[derive(Drop)]
+#[derive(Clone, Copy)]
 pub struct Gathered {
     pub number: u32,
     pub place: u32,

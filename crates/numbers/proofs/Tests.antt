@@ -1,5 +1,5 @@
 -- What the functions' tests, casts and calls say of the numbers, by the numbers' signs. Assumes nothing.
-use Rattle.std.proofs.Common.{◌≡◌, ℕ, suc, ◌+◌, ◌-◌, ◌*◌, ◌/◌, ◌%◌, ◌^◌, ◌<◌, ◌≤◌, Bool, true, false, cond, ◌&&◌, T, eqb, ltb, leb, ℤ, pos, negsuc, neg_ℤ, nat_abs, sym, refl, ap, ◌∙◌, ap₂, zero-mul, div-le_self, arith, w64, Fits, SFits, to_z, of_z, ltb-true, eq-eqb, ne_eqb, eqb-true, le-leb, leb-true}
+use Rattle.std.proofs.Common.{not-suc-le-zero, ◌≡◌, ℕ, zero, suc, ◌+◌, ◌-◌, ◌*◌, ◌/◌, ◌%◌, ◌^◌, ◌<◌, ◌≤◌, Bool, true, false, cond, ◌&&◌, T, eqb, ltb, leb, ℤ, pos, negsuc, neg_ℤ, nat_abs, sym, refl, ap, ◌∙◌, ap₂, zero-mul, div-le_self, arith, w64, Fits, SFits, to_z, of_z, ltb-true, eq-eqb, ne_eqb, eqb-true, le-leb, leb-true}
 use native.Mathlib.Nat.{div-eq_of_lt, lt-div-mul-add}
 use lib.Dec.{leb-zero}
 use lib.Signed.{mag, lt_z, non_neg, shr_z}
@@ -72,6 +72,7 @@ and_true true = refl
 and_true false = refl
 
 least : (x : ℕ) → 0 < x → neg_ℤ (pos x) ≡ negsuc (x - 1)
+least zero p = absurd (not-suc-le-zero p)
 least (suc x) p = let e : x ≡ suc x - 1 = omega arith in ap negsuc e
 
 pub signed_range : (x : ℕ) → 0 < x → (z : ℤ) → SFits w64 z

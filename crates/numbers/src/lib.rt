@@ -1,5 +1,7 @@
 // 64-bit numbers read as signed and back, sums that wrap, shifts, ranges by width and sign, and a place in a section.
 
+#![tactic(auto)]
+
 ghost use Rattle.std.specs.Prelude.{◌≡◌, ◌-◌, ◌*◌, ◌%◌, ◌^◌, ◌<◌, ◌≤◌, pos, neg_ℤ, ◌==◌, bit_and, unsigned_abs};
 ghost use Rattle.std.specs.Int.Signed.{shr_z};
 ghost use Rattle.meaning.specs.Numbers as N;

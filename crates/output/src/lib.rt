@@ -1,10 +1,12 @@
 // The program's output: an answer, and the section where it was patched, written as text.
+
+#![tactic(auto)]
+
 ghost use Rattle.std.specs.Prelude.{◌++◌, ◌≡◌, ◌+◌, ◌*◌, ◌≤◌, ◌<◌, length, drop};
 ghost use Rattle.meaning.specs.Checks.{answer_at, section_limit};
 ghost use Rattle.meaning.specs.Frames as F;
 ghost use Rattle.frames.specs.Text.{laid};
 ghost use Rattle.output.specs.Text.{frame02, place_line, output_bytes};
-
 // The longest output: a first line of 27 bytes, and a full section's 1,024 lines of 131.
 pub const OUTPUT: usize = 134171;
 

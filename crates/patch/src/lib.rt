@@ -1,4 +1,7 @@
 // Patch: the whole list is judged, in the order of the checks, before the first byte is written.
+
+#![tactic(auto)]
+
 ghost use Rattle.std.specs.Prelude.{◌≡◌, [], ◌/◌, ◌≤◌, ◌<◌, length};
 ghost use Rattle.meaning.specs.Call as M;
 ghost use Rattle.meaning.specs.Call.{card64, row_bytes, rows_of, offset_in};
@@ -17,7 +20,7 @@ use values::{FIXED, Masks};
 
 // Patched, with the number of records, or a number of refusal, its place and its offset: the refused record's, and 0 where no record is
 // refused.
-#[derive(Drop)]
+#[derive(Clone, Copy)]
 pub enum Answer {
     Patched(u32),
     Refused(u32, u32, u64),

@@ -1,4 +1,7 @@
 // The patch program: frames on standard input, its answer on standard output. It answers any input of any length.
+
+#![tactic(auto)]
+
 ghost use Rattle.std.specs.Prelude.{List, ◌≡◌, ℕ, ◌≤◌, length, take};
 ghost use Rattle.meaning.specs.Call.{card64};
 ghost use Rattle.meaning.specs.Checks.{section_limit, values_limit};
@@ -16,7 +19,7 @@ use patch::Answer;
 const INPUT: usize = 550055;
 
 // How much of a buffer was read, up to its end or the input's; or that a read failed.
-#[derive(Drop)]
+#[derive(Clone, Copy)]
 enum Input {
     Bytes(usize),
     Failed,

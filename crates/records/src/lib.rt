@@ -1,5 +1,8 @@
 // A record as its part of the bytes, and the sums and formulas at it. It is offset (u64), info (u64), addend (i64); type is the low 32
 // bits of info, symbol index the high 32. A field is read where it is used.
+
+#![tactic(auto)]
+
 ghost use Rattle.std.specs.Prelude.{◌≡◌, [], length};
 ghost use Rattle.meaning.specs.Numbers as N;
 ghost use Rattle.meaning.specs.Call as M;
@@ -10,7 +13,7 @@ ghost use Rattle.records.specs.Given.{as_setting, seen, Here};
 use table::Sum;
 
 // What a call gives to each of its records: the section's length, the number of value rows, the section's address and GP.
-#[derive(Drop)]
+#[derive(Clone, Copy)]
 pub struct Setting {
     pub size: u64,
     pub rows: u64,

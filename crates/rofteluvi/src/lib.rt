@@ -1,4 +1,7 @@
 // The C face: numbers and buffers in, a number, a place and an offset or a value out. include/rofteluvi.h declares it for a C program.
+
+#![tactic(auto)]
+
 ghost use Rattle.rofteluvi.specs.Face.{Patches, ReadsBack, Runs};
 
 use back::Immediate;
@@ -8,7 +11,7 @@ use sizes::REGISTERS;
 
 // rofteluvi_answer of the header.
 #[repr(C)]
-#[derive(Drop)]
+#[derive(Clone, Copy)]
 pub struct RofteluviAnswer {
     pub number: u32,
     pub place: u32,
@@ -17,7 +20,7 @@ pub struct RofteluviAnswer {
 
 // rofteluvi_immediate of the header.
 #[repr(C)]
-#[derive(Drop)]
+#[derive(Clone, Copy)]
 pub struct RofteluviImmediate {
     pub number: u32,
     pub place: u32,
@@ -26,7 +29,7 @@ pub struct RofteluviImmediate {
 
 // rofteluvi_ran of the header.
 #[repr(C)]
-#[derive(Drop)]
+#[derive(Clone, Copy)]
 pub struct RofteluviRan {
     pub number: u32,
     pub place: u32,

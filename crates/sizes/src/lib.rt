@@ -1,5 +1,7 @@
 // The sizes and limits of documents 01 and 02, each once.
 
+#![tactic(auto)]
+
 // A record is 24 bytes, a value row 56.
 pub const RECORD: usize = 24;
 

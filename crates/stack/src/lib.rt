@@ -1,6 +1,8 @@
 // The stack of signed numbers: its depth, taking and pushing an entry, and the operations by the psABI's names, judged and carried out.
 // A `Stack` is the number of its entries. The entries lie in an array that the caller keeps, the top one at height - 1.
 
+#![tactic(auto)]
+
 ghost use Rattle.std.specs.Prelude.{◌≡◌, ◌∷◌, suc, ◌+◌, ◌≤◌, ◌<◌, false, cond, ltb, pos, nat_abs, drop};
 ghost use Rattle.meaning.specs.Table as T;
 ghost use Rattle.meaning.specs.Stack as M;
@@ -8,27 +10,27 @@ ghost use Rattle.meaning.specs.Stack.{depth};
 ghost use Rattle.meaning.specs.Checks.{not_count, refuses};
 ghost use Rattle.stack.specs.Tops.{tops, taken_at, pushed_at, entries_at, pair_of, Fit, Holds, Judges, Operates, JudgesOperation, Passes};
 
-#[derive(Drop)]
+#[derive(Clone, Copy)]
 pub struct Stack {
     pub height: usize,
 }
 
 // What taking an entry answers: the value with the stack below it, or that there is none.
-#[derive(Drop)]
+#[derive(Clone, Copy)]
 pub enum Taken {
     Value(i64, Stack),
     Empty,
 }
 
 // What pushing an entry answers: the stack with it on top, or that there is no room.
-#[derive(Drop)]
+#[derive(Clone, Copy)]
 pub enum Pushed {
     Onto(Stack),
     Full,
 }
 
 // What judging a record answers: the stack after it, or its number of refusal.
-#[derive(Drop)]
+#[derive(Clone, Copy)]
 pub enum Judged {
     Passes(Stack),
     Refused(u32),

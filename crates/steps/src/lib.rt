@@ -1,6 +1,9 @@
 // One record of the list judged: its checks in their order, and the stack after it. Each match has the types of one class and hands on to
 // the next by its default arm, and each arm reads like its lines of Table 10. Neighbouring types stand in different arms: of an arm of
 // neighbours the compiler makes a test of a range, and not a jump.
+
+#![tactic(auto)]
+
 ghost use Rattle.std.specs.Prelude.{◌≡◌, [], ◌≤◌, ◌<◌, pos, length};
 ghost use Rattle.std.proofs.Math.Bool as B;
 ghost use Rattle.std.specs.Int.Signed.{lt_z};

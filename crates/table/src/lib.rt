@@ -1,5 +1,7 @@
 // The columns of Table 10, by the psABI's names: what an arm of the code hands on for its types. Nothing is computed here.
 
+#![tactic(auto)]
+
 // The values of a symbol, by their mask bits.
 pub const S: u32 = 0;
 
@@ -14,7 +16,7 @@ pub const IE: u32 = 4;
 pub const GD: u32 = 5;
 
 // The sums: a value alone, with the addend, or with GP.
-#[derive(Drop)]
+#[derive(Clone, Copy)]
 pub struct Sum {
     pub value: u32,
     pub with: u32,
@@ -78,7 +80,7 @@ pub const PAGES: u32 = 2;
 pub const FAR: u32 = 3;
 
 // A part of a field: `many` bits, from the value's bit `low` to the word's bit `at`.
-#[derive(Drop)]
+#[derive(Clone, Copy)]
 pub struct Part {
     pub low: u32,
     pub many: u32,
@@ -155,7 +157,7 @@ pub const HI10: Part = Part {
 };
 
 // The accepted values: n-bit signed numbers, n-bit unsigned ones, or of the signed ones the multiples of 4.
-#[derive(Drop)]
+#[derive(Clone, Copy)]
 pub struct Range {
     pub sign: u32,
     pub bits: u32,

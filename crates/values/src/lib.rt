@@ -1,5 +1,8 @@
 // The value rows, seven u64 each: a mask, then S, G, PLT, T, IE, GD. A symbol's row as a part of the table, and the value in it that a
 // type uses. Nothing else touches a value byte.
+
+#![tactic(auto)]
+
 ghost use Rattle.std.specs.Prelude.{◌≡◌, ◌+◌, ◌*◌, ◌≤◌, ◌<◌, length};
 ghost use Rattle.meaning.specs.Call.{u64, row_bytes, rows_of, row_of, no_row};
 ghost use Rattle.meaning.specs.Checks as C;
@@ -8,7 +11,7 @@ ghost use Rattle.values.specs.Values.{fixed_rows, refusal_at, masks_answer};
 use sizes::*;
 
 // Whether every mask is at most 63, or the first row whose mask is above: refusal 3.
-#[derive(Drop)]
+#[derive(Clone, Copy)]
 pub enum Masks {
     Fit,
     Above(u32),

@@ -1,6 +1,9 @@
 // The writing of a record that was judged before: a field's parts into a word, or bytes stored, added to or subtracted from, at the place
 // that the section lends, and the stack after it. The checks are not made again. Each match has the types of one class and hands on to
 // the next by its default arm, and each arm is its lines of Table 10: what is put, and where.
+
+#![tactic(auto)]
+
 ghost use Rattle.std.specs.Prelude.{◌≡◌, false, [], ◌∷◌, ◌+◌, ◌≤◌, ◌<◌, length};
 ghost use Rattle.meaning.specs.Numbers.{number, bytes_of, plus};
 ghost use Rattle.meaning.specs.Table as T;

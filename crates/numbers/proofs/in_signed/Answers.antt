@@ -3,22 +3,10 @@ use Rattle.std.proofs.Common.{◌-◌, ◌^◌, eqb, ℤ, ap, ◌∙◌, pow_pos
 use lib.Signed.{shr_z}
 use mir.ValLaws.{to_z-of_z}
 use Rattle.numbers.proofs.Tests.{signed_range}
-use Rattle.numbers.proofs.in_signed.Statement.{statement}
-use Rattle.numbers.proofs.in_signed.Tie as tie
+use Rattle.numbers.proofs.in_signed.Goals as goal
 
-sub-result : tie.Need-overflow-sub-result
-sub-result c = search rules
-
-cast-result : tie.Need-overflow-cast-result
-cast-result c = search rules
-
-shr-result : tie.Need-overflow-shr-result
-shr-result c = search rules
-
-returns : tie.Need-returns
+pub returns : goal.returns
 returns c =
     ap (λ (y : ℤ). eqb (of_z w64 (shr_z y (2 ^ (c.args.n - 1)))) (of_z w64 (shr_z y (2 ^ 63)))) (to_z-of_z w64 c.args.z c.ranges.z)
     ∙ signed_range (2 ^ (c.args.n - 1)) (pow_pos (c.args.n - 1)) c.args.z c.ranges.z
 
-pub in-signed-spec : {M : Type 1} → statement M
-in-signed-spec = tie.close (tie.spec sub-result cast-result shr-result returns)

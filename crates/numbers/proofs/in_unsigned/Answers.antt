@@ -3,19 +3,10 @@ use Rattle.std.proofs.Common.{◌^◌, eqb, ℤ, ap, ◌∙◌, pow_pos, w64, of
 use lib.Signed.{shr_z}
 use mir.ValLaws.{to_z-of_z}
 use Rattle.numbers.proofs.Tests.{unsigned_range}
-use Rattle.numbers.proofs.in_unsigned.Statement.{statement}
-use Rattle.numbers.proofs.in_unsigned.Tie as tie
+use Rattle.numbers.proofs.in_unsigned.Goals as goal
 
-cast-result : tie.Need-overflow-cast-result
-cast-result c = search rules
-
-shr-result : tie.Need-overflow-shr-result
-shr-result c = search rules
-
-returns : tie.Need-returns
+pub returns : goal.returns
 returns c =
     ap (λ (y : ℤ). eqb (of_z w64 (shr_z y (2 ^ c.args.n))) 0) (to_z-of_z w64 c.args.z c.ranges.z)
     ∙ unsigned_range (2 ^ c.args.n) (pow_pos c.args.n) c.args.z c.ranges.z
 
-pub in-unsigned-spec : {M : Type 1} → statement M
-in-unsigned-spec = tie.close (tie.spec cast-result shr-result returns)
