@@ -1,5 +1,5 @@
 -- `numbers::in_signed` meets its contract. Assumes nothing.
-use Rattle.std.proofs.Common.{◌-◌, ◌^◌, eqb, ℤ, ap, ◌∙◌, pow_pos, w64, of_z, rules}
+use Rattle.std.proofs.Common.{◌-◌, ◌^◌, eqb, ℤ, ap, ◌∙◌, pow_pos, w64, of_z}
 use lib.Signed.{shr_z}
 use mir.ValLaws.{to_z-of_z}
 use Rattle.numbers.proofs.Tests.{signed_range}
@@ -9,4 +9,3 @@ pub returns : goal.returns
 returns c =
     ap (λ (y : ℤ). eqb (of_z w64 (shr_z y (2 ^ (c.args.n - 1)))) (of_z w64 (shr_z y (2 ^ 63)))) (to_z-of_z w64 c.args.z c.ranges.z)
     ∙ signed_range (2 ^ (c.args.n - 1)) (pow_pos (c.args.n - 1)) c.args.z c.ranges.z
-
