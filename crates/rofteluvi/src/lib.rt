@@ -1,4 +1,5 @@
-// The C face: numbers and buffers in, a number, a place and an offset or a value out. include/rofteluvi.h declares it for a C program.
+// The face for C programs: numbers and buffers in, a number, a place and an offset or a value out. The crate rofteluvi_c exports it, and
+// include/rofteluvi.h declares it.
 
 #![tactic(auto)]
 
@@ -35,8 +36,7 @@ pub struct RofteluviRan {
     pub place: u32,
 }
 
-#[unsafe(no_mangle)]
-pub extern "C" fn rofteluvi_patch(
+pub fn rofteluvi_patch(
     section: &mut [u8],
     records: &[u8],
     values: &[u8],
@@ -61,8 +61,7 @@ pub extern "C" fn rofteluvi_patch(
 }
 
 // Its place is always 0, and on refusal the value is 0.
-#[unsafe(no_mangle)]
-pub extern "C" fn rofteluvi_read_back(
+pub fn rofteluvi_read_back(
     section: &[u8],
     address: u64,
     offset: u64,
@@ -86,12 +85,7 @@ pub extern "C" fn rofteluvi_read_back(
 }
 
 // The registers are the caller's, and what they hold is the run's result.
-#[unsafe(no_mangle)]
-pub extern "C" fn rofteluvi_run(
-    run: &[u8],
-    start: u64,
-    registers: &mut [u64; REGISTERS],
-) -> RofteluviRan
+pub fn rofteluvi_run(run: &[u8], start: u64, registers: &mut [u64; REGISTERS]) -> RofteluviRan
     ensures { Runs run.now start registers.old result registers.new }
 {
     let ran = executor::run(run, start, registers);
