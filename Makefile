@@ -58,14 +58,18 @@ AS_ARCHIVE := -Dplain_patch=rofteluvi_patch -Dplain_read_back=rofteluvi_read_bac
 
 all: $(ARCHIVE) $(PROGRAM)
 
-# rt proves again only what has changed, up to two crates at a time. Two calls of rt never run beside each other, since both would write to
-# target/. Under `make -j2` the archive is tested while the program is proved.
+# rt proves again only what has changed. Two calls of rt never run beside each other, since both would write to the out/ of the same crates.
+# Under `make -j2` the archive is tested while the program is proved.
 $(LIBRARY): FORCE
-	$(RT) check back patch executor output
-	$(RT) staticlib rofteluvi
+	cd crates/rofteluvi_c && $(RT) lib
+	@mkdir -p $(@D)
+	@cmp -s crates/rofteluvi_c/out/librofteluvi_c.a $@ || cp crates/rofteluvi_c/out/librofteluvi_c.a $@
 
+# rt builds a program when it runs it: here on no input.
 $(PROGRAM): $(LIBRARY)
-	$(RT) check patcher
+	cd crates/patcher && $(RT) run </dev/null >/dev/null
+	@mkdir -p $(@D)
+	@cmp -s crates/patcher/out/patcher $@ || cp crates/patcher/out/patcher $@
 
 FORCE:
 
@@ -163,4 +167,4 @@ clean:
 	rm -rf $(OUT)
 
 distclean:
-	rm -rf target
+	rm -rf target crates/*/out
