@@ -2,7 +2,7 @@
 -- Assumes nothing.
 use mathlib.Core.Path.{◌≡◌, ◌∙◌, sym, ap}
 use mathlib.Core.List.{List, [], ◌++◌, append-nil, append_assoc}
-use Prim.Native.Nat.{ℕ, suc, ◌+◌, ◌-◌, ◌*◌, ◌/◌, ◌%◌, ◌^◌, ◌≤◌, ◌<◌}
+use Prim.Native.Nat.{ℕ, zero, suc, ◌+◌, ◌-◌, ◌*◌, ◌/◌, ◌%◌, ◌^◌, ◌≤◌, ◌<◌}
 use native.Mathlib.Nat.{lt_of_lt_of_le, sub-zero, sub_self}
 use native.Mathlib.Numerals.{add-one}
 use native.Mathlib.Omega.{arith}
@@ -38,6 +38,7 @@ room n i r s bytes small more e = rw e (lt_of_lt_of_le (number_part_lt (n - i) i
 -- the byte below those that are read
 pub read_more : (n i r b : ℕ) (s : List ℕ) → 0 < i → i ≤ n → r ≡ number (take (n - i) (drop i s)) → b ≡ get_or s (i - 1) 0
     → b + 256 * r ≡ number (take (n - (i - 1)) (drop (i - 1) s))
+read_more n zero r b s more h e f = elim more [ ]
 read_more n (suc j) r b s more h e f =
     let below : suc j - 1 ≡ j = omega arith in
     let count : n - j ≡ suc (n - suc j) = omega arith in

@@ -54,6 +54,9 @@ row_whole values (suc k) = go (ltb k (length values / row_bytes)) refl
         rw (length_cut row_bytes (length values / row_bytes) values) (ltb-false k (length values / row_bytes) e) in
         ap length (get_or-eq_default (rows_of values) no_row past)
 
+-- the part that is handed back
+pub ruleset rows = (fixed_long, row_past, row_there)
+
 -- past the rows it is the row of nothing
 pub row_none : (values : List ℕ) (symbol : ℕ) → length values / row_bytes < symbol → row_of (rows_of values) symbol ≡ no_row
 row_none values zero h = absurd (omega arith)

@@ -66,3 +66,6 @@ or_most a b =
     let l : bit_and a b ≤ a = and_le_l a b in
     let r : bit_and a b ≤ b = and_le_r a b in
     (omega arith, omega arith)
+
+-- the answer of the masks before the first row, after one row more, and past the last
+pub ruleset masks = (masked_start, masked_next, masked_end)

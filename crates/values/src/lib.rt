@@ -21,6 +21,7 @@ pub enum Masks {
 pub const FIXED: usize = 2 * ROW;
 
 // Two rows that stand in no table: symbol 0's, which has S present and 0, and one of nothing for a symbol past the rows.
+#[tactic(auto, unfolding(crate::specs::Values::fixed_rows, meaning::specs::Numbers::bytes_of))]
 pub fn fixed_rows() -> [u8; FIXED]
     ensures { result ≡ fixed_rows }
 {
@@ -30,6 +31,7 @@ pub fn fixed_rows() -> [u8; FIXED]
 }
 
 // The row of a symbol: the part of the table where it stands, or one of the fixed two.
+#[tactic(auto, using(crate::proofs::Laws::rows))]
 pub fn row<'a>(values: &'a [u8], fixed: &'a [u8], symbol: u64) -> &'a [u8]
     requires { fixed.now ≡ fixed_rows }
     ensures { result.now ≡ row_of (rows_of values.now) symbol }
@@ -69,6 +71,7 @@ pub fn value(row: &[u8], bit: u32) -> u64
 }
 
 // All the masks or-ed: where that is at most 63, each of them is.
+#[tactic(auto, using(crate::proofs::Rows::masks, crate::proofs::Rows::or_most))]
 fn all_masks(values: &[u8]) -> u64
     ensures { result ≤ C.mask_limit → C.answer 0 0 ≡ C.first (C.of_masks 0 (rows_of values.now)) (C.answer 0 0) }
 {
@@ -83,6 +86,7 @@ fn all_masks(values: &[u8]) -> u64
     all
 }
 
+#[tactic(auto, using(crate::proofs::Rows::masks))]
 fn first_above(values: &[u8]) -> Masks
     requires { length values.now ≤ C.values_limit }
     ensures { masks_answer result ≡ C.first (C.of_masks 0 (rows_of values.now)) (C.answer 0 0) }
