@@ -6,13 +6,13 @@ use native.Mathlib.Omega.{arith}
 use mathlib.Core.Bool.{Bool, true, false, cond, ◌&&◌, ◌||◌, false≢true}
 use mathlib.Core.List.{List, [], ◌∷◌, ◌++◌, append_assoc, append-nil}
 use mathlib.Core.Path.{◌≡◌, refl, sym, ap, ◌∙◌, subst}
-use borrow.Author.Tests.{lt-ltb, eq-eqb, ne_eqb, ltb-true, ltb-false, leb-true, eqb-true, eqb-false}
+use borrow.Author.Tests.{lt-ltb, ne_eqb, ltb-true, ltb-false, leb-true}
 use borrow.Rule.Slice.PartMut.{put_mid}
 use lib.Dec.{eqb, ltb, leb}
 use lib.ListN.{length, take, drop, get_or, set, length-append, length-drop, length-set, take-append-drop, drop_of_length-le}
 use lib.Pow.{pow-add, pow_mono}
-use lib.Seq.{drop-cons, take-suc-set, drop-set-lt, get_or-set_same, get_or-set_other, length-take-le, take_at, drop_at, drop-drop}
-use Rattle.meaning.specs.Frames.{lines_of, onto, digit, all_digits, numeral, bytes_in, kind, body, sized, follows, well_formed}
+use lib.Seq.{drop-cons, take-suc-set, drop-set-lt, length-take-le, take_at, drop_at, drop-drop}
+use Rattle.meaning.specs.Frames.{lines_of, onto, digit, all_digits, numeral, bytes_in, kind, body, sized, well_formed}
 use Rattle.frames.specs.Text.{line_length, digits_length, laid}
 
 -- ---- a digit
@@ -111,35 +111,19 @@ first-line (b ∷ s) h = go (eqb b 10) s (first-line s)
 -- ---- its digits
 
 module _ (l : List ℕ) (i : ℕ) where
-  pub digits-next : i < length l → all_digits (drop i l) ≡ (ltb (digit (get_or l i 0)) 16 && all_digits (drop (suc i) l))
+  pub digits_next : i < length l → all_digits (drop i l) ≡ (ltb (digit (get_or l i 0)) 16 && all_digits (drop (i + 1) l))
   unfolding all_digits
-  digits-next h = rw (drop-cons l i 0 h)
+  digits_next h = rw (add-one, drop-cons l i 0 h)
 
   pub digits_end : length l ≤ i → all_digits (drop i l) ≡ true
   unfolding all_digits
   digits_end h = rw (drop_of_length-le l {i = i} h)
 
-  -- all before a place, one more, and all after it
-  pub more-digits : (all d : Bool) {z : Bool} → i < length l → d ≡ ltb (digit (get_or l i 0)) 16 → z ≡ (all && all_digits (drop i l)) →
-      z ≡ ((all && d) && all_digits (drop (suc i) l))
-  more-digits all d h e q = q ∙ rw (digits-next h, ← e) (go all)
-    where
-      go : (a : Bool) → (a && (d && all_digits (drop (suc i) l))) ≡ ((a && d) && all_digits (drop (suc i) l))
-      go true = refl
-      go false = refl
-
-  pub done_digits : (all : Bool) {z : Bool} → length l ≤ i → z ≡ (all && all_digits (drop i l)) → all ≡ z
-  done_digits all h q = sym (q ∙ rw (digits_end h) (go all))
-    where
-      go : (a : Bool) → (a && true) ≡ a
-      go true = refl
-      go false = refl
-
 -- where the digits from a place on end
 module _ (s : List ℕ) (at : ℕ) where
-  pub digit_here : at < length s → ltb (digit (get_or s at 0)) 16 ≡ true → digits_length (drop at s) ≡ suc (digits_length (drop (suc at) s))
+  pub digit_here : at < length s → ltb (digit (get_or s at 0)) 16 ≡ true → digits_length (drop at s) ≡ digits_length (drop (at + 1) s) + 1
   unfolding digits_length
-  digit_here h e = rw (drop-cons s at 0 h, e)
+  digit_here h e = rw (add-one at, drop-cons s at 0 h, e) (sym (add-one (digits_length (drop (suc at) s))))
 
   pub no_digit_here : at < length s → ltb (digit (get_or s at 0)) 16 ≡ false → digits_length (drop at s) ≡ 0
   unfolding digits_length
@@ -161,13 +145,11 @@ digits-run (suc n) (b ∷ l) h e = go (ltb (digit b) 16) e (digits-run n l (le_o
     go true e rest = let r : digits_length l ≡ n + digits_length (drop n l) = rest e in omega arith
     go false e rest = absurd (false≢true e)
 
-pub piece-digits : (at n : ℕ) (s : List ℕ) → at + n ≤ length s → all_digits (take (at + n - at) (drop at s)) ≡ true →
-    at + digits_length (drop at s) ≡ at + n + digits_length (drop (at + n) s)
-piece-digits at n s h e =
-    let k : at + n - at ≡ n = omega arith in
-    let q : digits_length (drop at s) ≡ n + digits_length (drop n (drop at s)) = digits-run n (drop at s) (rw length-drop (omega arith)) (rw k at e) in
-    let r : digits_length (drop n (drop at s)) ≡ digits_length (drop (at + n) s) = ap digits_length (drop-drop n at s) in
-    omega arith
+pub sixteen_digits : (at : ℕ) (s : List ℕ) → at + 16 ≤ length s → all_digits (take (at + 16 - at) (drop at s)) ≡ true →
+    digits_length (drop at s) ≡ 16 + digits_length (drop (at + 16) s)
+sixteen_digits at s h e =
+    let k : at + 16 - at ≡ 16 = omega arith in
+    digits-run 16 (drop at s) (rw length-drop (omega arith)) (rw k at e) ∙ ap (λ (l : List ℕ). 16 + digits_length l) (drop-drop 16 at s)
 
 -- digits are no line feeds: a line is its first digits, and what is left of it
 pub digits-first : (l : List ℕ) → line_length l ≡ digits_length l + line_length (drop (digits_length l) l)
@@ -232,16 +214,16 @@ module _ (s : List ℕ) (at end : ℕ) (is : end ≡ at + digits_length (drop at
       some zero q e = absurd (e refl)
       some (suc n) q e = omega arith
 
-pub digits-at : (l : List ℕ) (i : ℕ) → all_digits l ≡ true → i < length l → digit (get_or l i 0) < 16
+pub digits_at : (l : List ℕ) (i : ℕ) → all_digits l ≡ true → i < length l → digit (get_or l i 0) < 16
 unfolding all_digits
-digits-at [] i e h = absurd (not-suc-le-zero h)
-digits-at (b ∷ l) i e h = go i (ltb (digit b) 16) refl e h (digits-at l)
+digits_at [] i e h = absurd (not-suc-le-zero h)
+digits_at (b ∷ l) i e h = go i (ltb (digit b) 16) refl e h (digits_at l)
   where
     go : (j : ℕ) (t : Bool) → ltb (digit b) 16 ≡ t → t && all_digits l ≡ true → j < suc (length l) →
         ((k : ℕ) → all_digits l ≡ true → k < length l → digit (get_or l k 0) < 16) → digit (get_or (b ∷ l) j 0) < 16
-    go zero true p q k rest = ltb-true (digit b) 16 p
-    go (suc j) true p q k rest = rest j q (le_of_suc-le-suc k)
-    go j false p q k rest = absurd (false≢true q)
+    go zero true p q k _ = ltb-true (digit b) 16 p
+    go (suc j) true p q k more = more j q (le_of_suc-le-suc k)
+    go j false p q k _ = absurd (false≢true q)
 
 pub numeral-more : (x m at : ℕ) (l : List ℕ) → at < length l →
     numeral x (take (suc m) (drop at l)) ≡ numeral (16 * x + digit (get_or l at 0)) (take m (drop (suc at) l))
@@ -249,29 +231,24 @@ unfolding numeral
 numeral-more x m at l h = rw (drop-cons l at 0 h)
 
 -- the sixteen digits at a place, one by one
-pub numeral-start : (at : ℕ) (l : List ℕ) → numeral 0 (take 16 (drop at l)) ≡ numeral 0 (take (16 - 0) (drop (at + 0) l))
-numeral-start at l = rw add-zero
-
-pub numeral-next : (x i at d : ℕ) (l : List ℕ) {z : ℕ} → i < 16 → at + i < length l → d ≡ digit (get_or l (at + i) 0) →
-    z ≡ numeral x (take (16 - i) (drop (at + i) l)) → z ≡ numeral (16 * x + d) (take (16 - (i + 1)) (drop (at + (i + 1)) l))
-numeral-next x i at d l h k e q =
+pub numeral_next : (x i at : ℕ) (l : List ℕ) → i < 16 → at + i < length l →
+    numeral x (take (16 - i) (drop (at + i) l)) ≡ numeral (16 * x + digit (get_or l (at + i) 0)) (take (16 - (i + 1)) (drop (at + (i + 1)) l))
+numeral_next x i at l h k =
     let m : 16 - i ≡ suc (16 - (i + 1)) = omega arith in
     let n : at + (i + 1) ≡ suc (at + i) = omega arith in
-    rw (n, e) (q ∙ ap (λ (j : ℕ). numeral x (take j (drop (at + i) l))) m ∙ numeral-more x (16 - (i + 1)) (at + i) l k)
+    rw (m, n) (numeral-more x (16 - (i + 1)) (at + i) l k)
 
-pub numeral_done : (x i at : ℕ) (l : List ℕ) {z : ℕ} → i ≤ 16 → 16 ≤ i → z ≡ numeral x (take (16 - i) (drop (at + i) l)) → x ≡ z
+pub numeral_done : (x i : ℕ) (l : List ℕ) → 16 ≤ i → numeral x (take (16 - i) l) ≡ x
 unfolding numeral
-numeral_done x i at l h k q =
-    let m : 16 - i ≡ 0 = omega arith in
-    sym (q ∙ ap (λ (j : ℕ). numeral x (take j (drop (at + i) l))) m)
+numeral_done x i l h = let m : 16 - i ≡ 0 = omega arith in rw m
 
 -- sixteen digits are 64 bits: those before one more leave room for it
-pub digit_room : (i x : ℕ) → i < 16 → x < 2 ^ (4 * i) → x < 2 ^ 60
-digit_room i x h b = let p : 2 ^ (4 * i) ≤ 2 ^ 60 = pow_mono {i = 4 * i} {j = 60} (omega arith) in omega arith
+pub digits_room : (i : ℕ) → i < 16 → 2 ^ (4 * i) ≤ 2 ^ 60
+digits_room i h = pow_mono {i = 4 * i} {j = 60} (omega arith)
 
-pub digit_fits : (i x d : ℕ) → x < 2 ^ (4 * i) → d < 16 → 16 * x + d < 2 ^ (4 * suc i)
-digit_fits i x d b h =
-    let e : 4 * suc i ≡ 4 * i + 4 = omega arith in
+pub digit_room : (i : ℕ) → 2 ^ (4 * (i + 1)) ≡ 16 * 2 ^ (4 * i)
+digit_room i =
+    let e : 4 * (i + 1) ≡ 4 * i + 4 = omega arith in
     rw (e, pow-add 2 (4 * i) 4) (omega arith)
 
 pub bytes_more : (from : ℕ) (l : List ℕ) → suc from < length l →
@@ -295,8 +272,8 @@ length_bytes (b ∷ d ∷ l) = let e : length (bytes_in l) ≡ length l / 2 = le
 
 -- ---- a frame
 
-pub length-body : (line : List ℕ) → length (body line) ≡ (length line - 2) / 2
-length-body line = rw (length_bytes (drop 2 line), length-drop)
+pub length_body : (line : List ℕ) → length (body line) ≡ (length line - 2) / 2
+length_body line = rw (length_bytes (drop 2 line), length-drop)
 
 pub kind_is : (line : List ℕ) → 1 < length line → kind line ≡ 16 * digit (get_or line 0 0) + digit (get_or line 1 0)
 unfolding numeral
@@ -313,10 +290,6 @@ module _ (last : ℕ) (line : List ℕ) where
   unfolding well_formed
   no_digit e = rw e
 
-  pub odd_digit : all_digits line ≡ true → (length line % 2 ≡ 0 → ⊥) → well_formed last line ≡ false
-  unfolding well_formed
-  odd_digit e h = rw (e, ne_eqb (length line % 2) 0 h)
-
   pub no_frame : length line ≡ 0 → well_formed last line ≡ false
   unfolding well_formed all_digits sized numeral
   no_frame h = go line h
@@ -324,24 +297,6 @@ module _ (last : ℕ) (line : List ℕ) where
       go : (l : List ℕ) → length l ≡ 0 → well_formed last l ≡ false
       go [] h = refl
       go (b ∷ l) h = absurd (not-suc-le-zero (subst (λ (n : ℕ). suc 0 ≤ n) h (omega arith)))
-
-  module _ (k : ℕ) (all : all_digits line ≡ true) (even : length line % 2 ≡ 0) (some : 1 < length line)
-      (is : k ≡ 16 * digit (get_or line 0 0) + digit (get_or line 1 0)) where
-    pub kind_of : k ≡ kind line
-    kind_of = is ∙ sym (kind_is line some)
-
-    pub frame_is : well_formed last line ≡ (sized k ((length line - 2) / 2) && follows last k)
-    unfolding well_formed
-    frame_is = rw (all, eq-eqb (length line % 2) 0 even, ← kind_of, length-body line)
-
-    pub not_sized : sized k ((length line - 2) / 2) ≡ false → well_formed last line ≡ false
-    not_sized s = frame_is ∙ ap (λ (t : Bool). t && follows last k) s
-
-    pub not_following : sized k ((length line - 2) / 2) ≡ true → follows last k ≡ false → well_formed last line ≡ false
-    not_following s f = frame_is ∙ ap (λ (t : Bool). t && follows last k) s ∙ f
-
-    pub its_kind : sized k ((length line - 2) / 2) ≡ true → follows last k ≡ true → k ≡ cond (well_formed last line) (kind line) 0
-    its_kind s f = kind_of ∙ ap (λ (t : Bool). cond t (kind line) 0) (sym (frame_is ∙ ap (λ (t : Bool). t && follows last k) s ∙ f))
 
 -- ---- laying bytes over others
 
@@ -381,20 +336,22 @@ laid-append at (b ∷ v) w s h =
     (laid-append (suc at) v w (set s at b) (rw length-set (omega arith)))
 
 -- a frame's bytes laid one by one, from the digits that are left
-module _ (at from : ℕ) where
-  pub append-more : (b : ℕ) (l s : List ℕ) {z : List ℕ} → from + 1 < length l → at < length s →
-      b ≡ 16 * digit (get_or l from 0) + digit (get_or l (from + 1) 0) → z ≡ laid at (bytes_in (drop from l)) s →
-      z ≡ laid (at + 1) (bytes_in (drop (from + 2) l)) (set s at b)
-  append-more b l s h k e q =
+module _ (at from : ℕ) (l s : List ℕ) where
+  pub laid_next : (b : ℕ) → from + 1 < length l → at < length s → b ≡ 16 * digit (get_or l from 0) + digit (get_or l (from + 1) 0) →
+      laid (at + 1) (bytes_in (drop (from + 2) l)) (set s at b) ≡ laid at (bytes_in (drop from l)) s
+  laid_next b h k e =
       let n : from + 2 ≡ suc (suc from) = omega arith in
-      let m : from + 1 ≡ suc from = omega arith in
-      let f : b ≡ 16 * digit (get_or l from 0) + digit (get_or l (suc from) 0) = rw m at e in
-      rw (add-one at, n, f) (q ∙ ap (λ (w : List ℕ). laid at w s) (bytes_more from l (omega arith)) ∙ laid_cons at s (16 * digit (get_or l from 0) + digit (get_or l (suc from) 0)) (bytes_in (drop (suc (suc from)) l)) k)
+      rw (add-one at, n, bytes_more from l (omega arith), laid_cons at s (16 * digit (get_or l from 0) + digit (get_or l (suc from) 0)) (bytes_in (drop (suc (suc from)) l)) k, e, add-one from)
 
-  pub append_done : (l s : List ℕ) {z : List ℕ} → length l ≤ from + 1 → z ≡ laid at (bytes_in (drop from l)) s → s ≡ z
-  append_done l s h q = sym (q ∙ ap (λ (w : List ℕ). laid at w s) (bytes_end from l (omega arith)) ∙ laid_none at s)
+  pub laid_done : length l ≤ from + 1 → laid at (bytes_in (drop from l)) s ≡ s
+  laid_done h = rw (bytes_end from l (omega arith)) (laid_none at s)
 
-pub laid_whole : (w s : List ℕ) → length w ≡ length s → w ≡ laid 0 w s
+-- the same where the digits that are left begin at twice the place
+pub laid_pair : (k : ℕ) (l s : List ℕ) (b : ℕ) → 2 * k + 1 < length l → k < length s → b ≡ 16 * digit (get_or l (2 * k) 0) + digit (get_or l (2 * k + 1) 0) →
+    laid (k + 1) (bytes_in (drop (2 * (k + 1)) l)) (set s k b) ≡ laid k (bytes_in (drop (2 * k) l)) s
+laid_pair k l s b h j e = let n : 2 * (k + 1) ≡ 2 * k + 2 = omega arith in rw n (laid_next k (2 * k) l s b h j e)
+
+pub laid_whole : (w s : List ℕ) → length w ≡ length s → laid 0 w s ≡ w
 unfolding laid
 laid_whole w s e =
     let n : drop (0 + length w) s ≡ [] = drop_of_length-le s {i = 0 + length w} (omega arith) in
@@ -411,8 +368,8 @@ bytes_split (suc n) (a ∷ b ∷ l) h =
     let r : bytes_in l ≡ bytes_in (take (n + n) l) ++ bytes_in (drop (n + n) l) = bytes_split n l (omega arith) in
     rw m (ap (λ (t : List ℕ). (16 * digit a + digit b) ∷ t) r)
 
-pub piece-length : (at n : ℕ) (s : List ℕ) → at + n ≤ length s → length (take (at + n - at) (drop at s)) ≡ n
-piece-length at n s h =
+pub piece_length : (at n : ℕ) (s : List ℕ) → at + n ≤ length s → length (take (at + n - at) (drop at s)) ≡ n
+piece_length at n s h =
     let k : at + n - at ≡ n = omega arith in
     rw k (length-take-le n (drop at s) (rw length-drop (omega arith)))
 
@@ -436,36 +393,19 @@ module _ (at : ℕ) (s w : List ℕ) (long : length w ≡ 8) where
   unfolding laid
   part_laid = let k : at + 8 - at ≡ 8 = omega arith in rw (k, long, drop-drop 8 at s)
 
-  pub append_eight : (from : ℕ) (l : List ℕ) {z : List ℕ} → from + 16 ≤ length l → at + 8 ≤ length s → w ≡ bytes_in (take (from + 16 - from) (drop from l)) →
-      z ≡ laid at (bytes_in (drop from l)) s → z ≡ laid (at + 8) (bytes_in (drop (from + 16) l)) (put_mid at (at + 8 - at) s w)
-  append_eight from l h fits e q =
+  pub length_part : at + 8 ≤ length s → length (put_mid at (at + 8 - at) s w) ≡ length s
+  length_part fits = ap length part_laid ∙ length-laid at s w (omega arith)
+
+  pub laid_eight : (from : ℕ) (l : List ℕ) → from + 16 ≤ length l → at + 8 ≤ length s → w ≡ bytes_in (take (from + 16 - from) (drop from l)) →
+      laid (at + 8) (bytes_in (drop (from + 16) l)) (put_mid at (at + 8 - at) s w) ≡ laid at (bytes_in (drop from l)) s
+  laid_eight from l h fits e =
       let k : from + 16 - from ≡ 16 = omega arith in
       let is : w ≡ bytes_in (take 16 (drop from l)) = rw k at e in
       let n : 16 ≤ length (drop from l) = rw length-drop (omega arith) in
       let parts : bytes_in (drop from l) ≡ w ++ bytes_in (drop (from + 16) l) = rw (is, ← drop-drop 16 from l) (bytes_split 8 (drop from l) n) in
-      q ∙ ap (λ (x : List ℕ). laid at x s) parts ∙ laid-append at w (bytes_in (drop (from + 16) l)) s (omega arith) ∙ rw (part_laid, long)
+      sym (ap (λ (x : List ℕ). laid at x s) parts ∙ laid-append at w (bytes_in (drop (from + 16) l)) s (omega arith) ∙ rw (part_laid, long))
 
 -- ---- digits taken two by two
 
 abbrev pub Paired : List ℕ → List ℕ → ℕ → Type 0
 Paired digits pairs i = (j : ℕ) → j < i → (get_or pairs j 0 % 256 ≡ get_or digits (2 * j) 0) × (get_or pairs j 0 / 256 ≡ get_or digits (2 * j + 1) 0)
-
-module _ (digits pairs : List ℕ) (i : ℕ) (all : all_digits digits ≡ true) where
-  pub paired_more : (p : ℕ) → 2 * i + 1 < length digits → i < length pairs → p ≡ get_or digits (2 * i) 0 + 256 * get_or digits (2 * i + 1) 0 →
-      Paired digits pairs i → Paired digits (set pairs i p) (i + 1)
-  paired_more p h k e q j l = go (eqb j i) refl
-    where
-      go : (t : Bool) → eqb j i ≡ t → (get_or (set pairs i p) j 0 % 256 ≡ get_or digits (2 * j) 0) × (get_or (set pairs i p) j 0 / 256 ≡ get_or digits (2 * j + 1) 0)
-      go true t =
-          let small = no_feed (get_or digits (2 * i) 0) (digits-at digits (2 * i) all (omega arith)) in
-          rw (eqb-true j i t, get_or-set_same pairs i p 0 k) (omega arith, omega arith)
-      go false t = rw (get_or-set_other pairs i j p 0 (eqb-false j i t)) (let n = eqb-false j i t in q j (omega (arith, n)))
-
-  pub pair-digits : i < 8 → length digits ≡ 16 → Paired digits pairs 8 → (digit (get_or pairs i 0 % 256) < 16) × (digit (get_or pairs i 0 / 256) < 16)
-  pair-digits h n q =
-      let p = q i h in
-      (rw p.0 (digits-at digits (2 * i) all (omega arith)), rw p.1 (digits-at digits (2 * i + 1) all (omega arith)))
-
-  pub pair_byte : (b : ℕ) → i < 8 → Paired digits pairs 8 → b ≡ 16 * digit (get_or pairs i 0 % 256) + digit (get_or pairs i 0 / 256) →
-      b ≡ 16 * digit (get_or digits (2 * i) 0) + digit (get_or digits (2 * i + 1) 0)
-  pair_byte b h q e = let p = q i h in rw (← p.0, ← p.1) e

@@ -1,6 +1,5 @@
 -- Reading, line by line, over plain numbers and lists: a frame's parts, what a line decides, and what holds between two lines.
 use Prim.Native.Nat.{ℕ, suc, ◌+◌, ◌-◌, ◌/◌, ◌%◌, ◌≤◌, ◌<◌}
-use native.Mathlib.Nat.{add-zero}
 use native.Mathlib.Numerals.{add-one}
 use native.Mathlib.Omega.{arith}
 use mathlib.Core.Bool.{Bool, true, false, cond, ◌&&◌, false≢true}
@@ -16,8 +15,8 @@ use Rattle.meaning.specs.Frames.{lines_of, all_digits, hexadecimal, numeral, kin
 use Rattle.meaning.specs.Frames.{Input, added, of_line, reading, reading_of}
 use Rattle.frames.specs.declared.Gathered.{Gathered}
 use Rattle.frames.specs.Text.{line_length, digits_length, laid}
-use Rattle.frames.specs.Gathered.{input_in, reading_in, Filled, refused_as, Within, over_in, own, gathered_with}
-use Rattle.frames.proofs.Laws.{both, first-line, length-body, laid_none, length-laid, take-laid, drop-laid, no_lines, no_digit, no_kind, line_broken}
+use Rattle.frames.specs.Gathered.{input_in, reading_in, Filled, Within, over_in, own, gathered_with}
+use Rattle.frames.proofs.Laws.{both, first-line, length_body, length-laid, take-laid, drop-laid, no_lines, no_digit, no_kind, line_broken}
 
 -- ---- a well-formed frame
 
@@ -56,12 +55,6 @@ bounds (two p q r) = record { some = q; few = r; least = omega arith; most = ome
 bounds (three p q) = record { some = omega arith; few = omega arith; least = omega arith; most = omega arith; numbers = λ e. omega arith }
 bounds (four p q) = record { some = omega arith; few = omega arith; least = omega arith; most = omega arith; numbers = λ e. omega arith }
 
-pub last_kind : {k n : ℕ} → Sizes k n → (k ≡ 1 → ⊥) → (k ≡ 2 → ⊥) → (k ≡ 3 → ⊥) → k ≡ 4
-last_kind (one p n) a b d = absurd (a p)
-last_kind (two p n m) a b d = absurd (b p)
-last_kind (three p n) a b d = absurd (d p)
-last_kind (four p n) a b d = p
-
 -- the last kind is no greater, and 01 comes first
 in_order : (last k : ℕ) → follows last k ≡ true → (last ≤ k) × (k ≡ 1 → last ≡ 0)
 unfolding follows
@@ -97,8 +90,8 @@ module _ (last : ℕ) (line : List ℕ) where
         is = refl;
         all = p.0;
         even = eqb-true (length line % 2) 0 p.1;
-        fit = rw length-body at q.1;
-        size = rw length-body at (sizes (kind line) (length (body line)) q.1);
+        fit = rw length_body at q.1;
+        size = rw length_body at (sizes (kind line) (length (body line)) q.1);
         rising = o.0;
         first = o.1;
       }
@@ -185,7 +178,7 @@ pub length-own : (k mine : ℕ) (line : List ℕ) → length (own k mine line) �
 length-own k mine line = go (eqb k mine)
   where
     go : (b : Bool) → length (cond b (body line) []) ≡ cond b ((length line - 2) / 2) 0
-    go true = length-body line
+    go true = length_body line
     go false = refl
 
 -- how long a buffer's part is with them
@@ -215,53 +208,6 @@ module _ (limit n : ℕ) (came is w next : List ℕ) (f : Filled limit n came is
   pub taken_more : take m next ≡ take n is ++ w
   taken_more = rw (e, counted) (take-laid n is w room)
 
--- what gathering a frame leaves, by its kind
-module _ (kind : ℕ) (line : List ℕ) (got : Gathered) (s v q : List ℕ) where
-  abbrev pub Gathers : Gathered → List ℕ → List ℕ → List ℕ → Type 0
-  Gathers r s' v' q' =
-      (r ≡ gathered_with kind line got) × ((s' ≡ laid got.section (own kind 2 line) s)
-      × ((v' ≡ laid got.values (own kind 3 line) v) × (q' ≡ laid got.records (own kind 4 line) q)))
-
-  -- the gathered with other numbers and counts
-  abbrev with : (a g x y z : ℕ) → Gathered
-  with a g x y z = record { number = got.number; place = got.place; address = a; gp = g; section = x; values = y; records = z }
-
-  same : {a g x y z a' g' x' y' z' : ℕ} → a' ≡ a → g' ≡ g → x' ≡ x → y' ≡ y → z' ≡ z → with a g x y z ≡ with a' g' x' y' z'
-  same e f l m n = rw (e, f, l, m, n)
-
-  pub gathers_numbers : kind ≡ 1 → (a g : ℕ) → a ≡ numeral 0 (take 16 (drop 2 line)) → g ≡ numeral 0 (take 16 (drop 18 line)) →
-      Gathers (with a g got.section got.values got.records) s v q
-  gathers_numbers k a g e f =
-      rw k (
-        same (sym e) (sym f) (add-zero got.section) (add-zero got.values) (add-zero got.records),
-        (sym (laid_none got.section s), (sym (laid_none got.values v), sym (laid_none got.records q))),
-      )
-
-  pub gathers_section : kind ≡ 2 → (t : List ℕ) → t ≡ laid got.section (body line) s →
-      Gathers (with got.address got.gp (got.section + (length line - 2) / 2) got.values got.records) t v q
-  gathers_section k t e =
-      rw k (
-        same refl refl refl (add-zero got.values) (add-zero got.records),
-        (e, (sym (laid_none got.values v), sym (laid_none got.records q))),
-      )
-
-  pub gathers_values : kind ≡ 3 → (t : List ℕ) → t ≡ laid got.values (body line) v →
-      Gathers (with got.address got.gp got.section (got.values + (length line - 2) / 2) got.records) s t q
-  gathers_values k t e =
-      rw k (
-        same refl refl (add-zero got.section) refl (add-zero got.records),
-        (sym (laid_none got.section s), (e, sym (laid_none got.records q))),
-      )
-
-  pub gathers_records : kind ≡ 4 → (t : List ℕ) → t ≡ laid got.records (body line) q →
-      Gathers (with got.address got.gp got.section got.values (got.records + (length line - 2) / 2)) s v t
-  gathers_records k t e =
-      rw k (
-        same refl refl (add-zero got.section) (add-zero got.values) refl,
-        (sym (laid_none got.section s), (sym (laid_none got.values v), e)),
-      )
-
--- no buffer is past its limit where none is found
 pub within : (a b d o : ℕ) → o ≡ over_in a b d → 3 ≤ o → Within a b d
 within a b d o e h = go (ltb section_limit a) (ltb card64.records_limit d) (ltb values_limit b) refl refl refl (rw e at h)
   where
@@ -297,38 +243,13 @@ abbrev pub between : List ℕ → ℕ → ℕ → List ℕ
 between input at end = take (end - at) (drop at input)
 
 module _ {input s₀ v₀ q₀ : List ℕ} where
-  pub start : length s₀ ≡ section_limit → length v₀ ≡ values_limit → length q₀ ≡ card64.records_limit →
-      State input s₀ v₀ q₀ s₀ v₀ q₀ (record { number = 0; place = 0; address = 0; gp = 0; section = 0; values = 0; records = 0 }) 0 0 0
-  start a b d =
-      record {
-        same = refl;
-        number = refl;
-        place = refl;
-        on = omega arith;
-        section = record { whole = a; within = omega arith; kept = refl };
-        values = record { whole = b; within = omega arith; kept = refl };
-        records = record { whole = d; within = omega arith; kept = refl };
-        few = omega arith;
-        kinds = omega arith;
-      }
-
   module _ {s v q : List ℕ} {got : Gathered} {last lines at : ℕ} (now : State input s₀ v₀ q₀ s v q got last lines at) where
-    -- an answer with a refusal, which keeps what was gathered
-    pub stopped : (number place : ℕ) (r : Gathered) → r ≡ refused_as number place got →
-        record { refusal = answer number place; input = input_in got s v q } ≡ reading_of input → Answered input s₀ v₀ q₀ s v q r
-    stopped number place r e h = rw e (record { is = h; section = now.section; values = now.values; records = now.records })
-
     -- after the last line
-    pub ended : length input ≤ at → (last ≡ 0 → ⊥) → Answered input s₀ v₀ q₀ s v q got
+    pub ended : length input ≤ at → (last ≡ 0 → ⊥) → reading_in got s v q ≡ reading_of input
     unfolding reading first
     ended h k =
         let e = now.same in
-        record {
-          is = rw (now.number, now.place) (sym (sym now.same ∙ rw (no_lines input at h, ne_eqb last 0 k)));
-          section = now.section;
-          values = now.values;
-          records = now.records;
-        }
+        rw (now.number, now.place) (sym (sym now.same ∙ rw (no_lines input at h, ne_eqb last 0 k)))
 
     pub nothing_read : length input ≤ at → last ≡ 0 → record { refusal = answer 17 lines; input = input_in got s v q } ≡ reading_of input
     unfolding reading first
@@ -370,7 +291,9 @@ module _ {input s₀ v₀ q₀ : List ℕ} where
               rw judged (rw t at decided)
 
           -- the state after the line
-          module _ (fits : 3 ≤ o) (to_end : end ≤ length input) (r : Gathered) (s' v' q' : List ℕ) (gathers : Gathers k line got s v q r s' v' q') where
+          module _ (fits : 3 ≤ o) (to_end : end ≤ length input) {r : Gathered} {s' v' q' : List ℕ} (gathers : r ≡ more)
+              (lays-section : s' ≡ laid got.section (own k 2 line) s) (lays-values : v' ≡ laid got.values (own k 3 line) v)
+              (lays-records : q' ≡ laid got.records (own k 4 line) q) where
             inside : Within more.section more.values more.records
             inside = within more.section more.values more.records o judged fits
 
@@ -392,24 +315,24 @@ module _ {input s₀ v₀ q₀ : List ℕ} where
                 rw (
                   ← f.is,
                   second,
-                  taken_more section_limit got.section s₀ s (own k 2 line) s' now.section more.section (counted got.section 2) inside.section gathers.1.0,
-                  taken_more values_limit got.values v₀ v (own k 3 line) v' now.values more.values (counted got.values 3) inside.values gathers.1.1.0,
-                  taken_more card64.records_limit got.records q₀ q (own k 4 line) q' now.records more.records (counted got.records 4) inside.records gathers.1.1.1,
+                  taken_more section_limit got.section s₀ s (own k 2 line) s' now.section more.section (counted got.section 2) inside.section lays-section,
+                  taken_more values_limit got.values v₀ v (own k 3 line) v' now.values more.values (counted got.values 3) inside.values lays-values,
+                  taken_more card64.records_limit got.records q₀ q (own k 4 line) q' now.records more.records (counted got.records 4) inside.records lays-records,
                 )
 
             pub next : State input s₀ v₀ q₀ s' v' q' r k (lines + 1) (end + 1)
             next =
                 let t : ltb (over_in more.section more.values more.records) 3 ≡ false = le-ltb (over_in more.section more.values more.records) 3 (rw judged at fits) in
                 let going : reading (suc lines) (kind line) (added line (input_in got s v q)) (lines_of (drop (end + 1) input)) ≡ reading_of input = rw t at decided in
-                rw gathers.0
+                rw gathers
                 (record {
                   same = alike (lines_of (drop (end + 1) input)) (add-one lines) f.is (sym now_added) ∙ going;
                   number = now.number;
                   place = now.place;
                   on = omega arith;
-                  section = filled_more section_limit got.section s₀ s (own k 2 line) s' now.section more.section (counted got.section 2) inside.section gathers.1.0;
-                  values = filled_more values_limit got.values v₀ v (own k 3 line) v' now.values more.values (counted got.values 3) inside.values gathers.1.1.0;
-                  records = filled_more card64.records_limit got.records q₀ q (own k 4 line) q' now.records more.records (counted got.records 4) inside.records gathers.1.1.1;
+                  section = filled_more section_limit got.section s₀ s (own k 2 line) s' now.section more.section (counted got.section 2) inside.section lays-section;
+                  values = filled_more values_limit got.values v₀ v (own k 3 line) v' now.values more.values (counted got.values 3) inside.values lays-values;
+                  records = filled_more card64.records_limit got.records q₀ q (own k 4 line) q' now.records more.records (counted got.records 4) inside.records lays-records;
                   few = one_more last line k f lines got.section got.values got.records now.few;
                   kinds = (bounds f.size).most;
                 })

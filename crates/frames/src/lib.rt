@@ -24,12 +24,14 @@ fn within(b: u8, low: u8, high: u8) -> bool
 }
 
 // Whether a byte is a digit, of either letter case. No test waits for another, so that the compiler can make them on many bytes at once.
+#[tactic(auto, using(crate::proofs::Laws::tests))]
 fn is_digit(b: u8) -> bool
     ensures { result ≡ ltb (F.digit b) 16 }
 {
     within(b, 48, 57) | within(b, 65, 70) | within(b, 97, 102)
 }
 
+#[tactic(auto, using(crate::proofs::Laws::digits_next, crate::proofs::Laws::digits_end))]
 fn all_digits(piece: &[u8]) -> bool
     ensures { result ≡ F.all_digits piece.now }
 {
@@ -43,6 +45,7 @@ fn all_digits(piece: &[u8]) -> bool
 }
 
 // How far whole pieces of sixteen bytes, from `at` on, are digits.
+#[tactic(auto, using(crate::proofs::Laws::sixteen_digits))]
 fn pieces_end(input: &[u8], at: usize) -> usize
     requires { at ≤ length input.now }
     ensures { (result ≤ length input.now)
@@ -60,6 +63,7 @@ fn pieces_end(input: &[u8], at: usize) -> usize
 }
 
 // Where the digits that stand from `at` on end.
+#[tactic(auto, using(crate::proofs::Laws::digit_here, crate::proofs::Laws::no_digit_here, crate::proofs::Laws::no_digits_here))]
 fn digits_end(input: &[u8], at: usize) -> usize
     requires { at ≤ length input.now }
     ensures { (result ≡ at + digits_length (drop at input.now)) × (result ≤ length input.now) }
@@ -75,6 +79,7 @@ fn digits_end(input: &[u8], at: usize) -> usize
 }
 
 // Whether a line ends at a place: a line feed stands there, or the input ends.
+#[tactic(auto, using(crate::proofs::Laws::feed_test, crate::proofs::Laws::no_line_here))]
 fn line_ends(input: &[u8], at: usize) -> bool
     requires { at ≤ length input.now }
     ensures { result ≡ eqb (line_length (drop at input.now)) 0 }
@@ -86,6 +91,7 @@ fn line_ends(input: &[u8], at: usize) -> bool
 }
 
 // The number that a digit stands for.
+#[tactic(auto, using(crate::proofs::Laws::value_low, crate::proofs::Laws::value_high))]
 fn value(digit: u8) -> u8
     requires { F.digit digit < 16 }
     ensures { result ≡ F.digit digit }
@@ -106,6 +112,7 @@ fn byte(high: u8, low: u8) -> u8
 }
 
 // How many bytes a frame of each kind has.
+#[tactic(auto, unfolding(meaning::specs::Frames::sized))]
 fn sized(kind: u8, n: usize) -> bool
     ensures { result ≡ F.sized kind n }
 {
@@ -128,6 +135,7 @@ fn sized(kind: u8, n: usize) -> bool
 }
 
 // Which kind may come after the last one, which is 0 before the first frame.
+#[tactic(auto, unfolding(meaning::specs::Frames::follows))]
 fn follows(last: u8, kind: u8) -> bool
     ensures { result ≡ F.follows last kind }
 {
@@ -141,6 +149,7 @@ fn follows(last: u8, kind: u8) -> bool
 }
 
 // The kind of a line of digits that is a well-formed frame after one of kind `last`, and 0 for any other.
+#[tactic(auto, using(crate::proofs::Laws::no_frame, crate::proofs::Laws::kind_is, crate::proofs::Laws::length_body, crate::proofs::Laws::digits_at), unfolding(meaning::specs::Frames::well_formed))]
 fn kind_of(last: u8, line: &[u8]) -> u8
     requires { F.all_digits line.now ≡ true }
     ensures { result ≡ cond (F.well_formed last line.now) (F.kind line.now) 0 }
@@ -163,6 +172,7 @@ fn kind_of(last: u8, line: &[u8]) -> u8
 }
 
 // The number of the sixteen digits at `at`.
+#[tactic(auto, using(crate::proofs::Laws::digits_at, crate::proofs::Laws::numeral_next, crate::proofs::Laws::numeral_done, crate::proofs::Laws::digits_room, crate::proofs::Laws::digit_room))]
 fn number(line: &[u8], at: usize) -> u64
     requires at_in_bounds { at + 16 ≤ length line.now }
     requires line_value { F.all_digits line.now ≡ true }
@@ -192,6 +202,7 @@ fn byte_of(pair: u16) -> u8
 }
 
 // The eight bytes of sixteen digits. The digits are first taken two by two, so that the compiler can decode all eight at once.
+#[tactic(auto, using(crate::proofs::Laws::digits_at, crate::proofs::Laws::laid_whole, crate::proofs::Laws::length_bytes, crate::proofs::Laws::laid_pair, crate::proofs::Laws::laid_done))]
 fn eight(digits: &[u8], bytes: &mut [u8])
     requires digits_len { (length digits.now ≡ 16) × (length bytes.old ≡ 8) }
     requires digits_value { F.all_digits digits.now ≡ true }
@@ -211,6 +222,7 @@ fn eight(digits: &[u8], bytes: &mut [u8])
 }
 
 // Lays the bytes of a frame into a buffer, from `used` on.
+#[tactic(auto, using(crate::proofs::Laws::digits_part, crate::proofs::Laws::digits_at, crate::proofs::Laws::piece_length, crate::proofs::Laws::length_part, crate::proofs::Laws::laid_eight, crate::proofs::Laws::laid_next, crate::proofs::Laws::laid_done))]
 fn append(buffer: &mut [u8], used: usize, line: &[u8])
     requires in_bounds { 2 ≤ length line.now }
     requires line_value { F.all_digits line.now ≡ true }
@@ -291,6 +303,7 @@ impl Gathered {
 }
 
 // Gathers a frame: the two numbers of kind 1, or the bytes of any other, laid into the one buffer that its kind names.
+#[tactic(auto, using(crate::proofs::Laws::laid_none), unfolding(meaning::specs::Frames::sized))]
 fn gather(
     got: Gathered,
     kind: u8,
