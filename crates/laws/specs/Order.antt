@@ -60,12 +60,12 @@ module _ (c : Setting) where
   run-append : (st : Stack) (a b : List Record) → run c st (a ++ b) ≡ run c (run c st a) b
   unfolding run
   run-append st [] b = refl
-  run-append st (r ∷ a) b = run-append _ a b
+  run-append st (r ∷ a) b = run-append (after c r (does c r) st) a b
 
   patched-append : (st : Stack) (s : List ℕ) (a b : List Record) → patched c st s (a ++ b) ≡ patched c (run c st a) (patched c st s a) b
   unfolding run patched
   patched-append st s [] b = refl
-  patched-append st s (r ∷ a) b = patched-append _ _ a b
+  patched-append st s (r ∷ a) b = patched-append (after c r (does c r) st) _ a b
 
   checked-append : (st : Stack) (a b : List Record) → Checked c st (a ++ b) ↔ (Checked c st a × Checked c (run c st a) b)
   unfolding run

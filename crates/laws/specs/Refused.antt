@@ -63,6 +63,7 @@ masks_without n t i (row ∷ rows) = go (not (eqb 3 n)) t (masks_without n t (su
   where
     go : (b : Bool) → T b → T (without n (of_masks (suc i) rows)) → T (b && without n (of_masks (suc i) rows))
     go true t rest = rest
+    go false t rest = elim t [ ]
 
 -- A check with the number n among others without it: it is the first that fails, or what answers n comes after them all.
 here_or_later : (n : ℕ) (ks ls rest : List Check) (k : Check) (a : Answer) → T (without n ks) → T (without n ls) →
@@ -145,6 +146,7 @@ module _ (n j : ℕ) (some : n ≡ 0 → ⊥) (there : j < 13)
       let (p, e₁) = after_those n limits (masks ++ each) a no-limit e in
       let (q, e₂) = after_those n masks each a (masks_without n no-mask 0 (rows_of c.values)) e₁ in
       let f = found c.setting 0 [] (records_of c records) a refl e₂ in
+      let k : Check = nth (of_record c.setting f.place f.r (does c.setting f.r) (run c.setting [] f.before)) j in
       record {
         before = f.before;
         r = f.r;
@@ -152,7 +154,7 @@ module _ (n j : ℕ) (some : n ≡ 0 → ⊥) (there : j < 13)
         place = f.place;
         splits = f.splits;
         counts = f.counts;
-        first_to_fail = passing limits p (passing masks q f.first_to_fail);
+        first_to_fail = passing limits {k = k} p (passing masks {k = k} q f.first_to_fail);
       }
 
 -- ---- which way a value missed its range

@@ -3,7 +3,7 @@ use Rattle.std.specs.Prelude.{ℕ, suc, ◌+◌, ◌/◌, ◌<◌, ◌≤◌, Bo
 use Rattle.std.proofs.Math.Bool.{false}
 use mathlib.Core.List.{List, [], ◌∷◌}
 use Rattle.std.proofs.Math.Path.{sym, subst⁻¹}
-use Rattle.std.proofs.Common.{ap, ◌∙◌, subst, eq-eqb, ne_eqb, eqb-true}
+use Rattle.std.proofs.Common.{ap, ◌∙◌, eq-eqb, ne_eqb, eqb-true}
 use Rattle.meaning.specs.Table.{Semantics}
 use Rattle.meaning.specs.Call.{Setting, Call, Record, does, records_of}
 use Rattle.meaning.specs.Stack.{Stack, after}
