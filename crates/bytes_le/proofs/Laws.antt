@@ -1,15 +1,8 @@
 -- A turn of the loop that reads bytes and of the one that stores them, over plain numbers and lists.
 -- Assumes nothing.
-use mathlib.Core.Path.{◌≡◌, ◌∙◌, sym, ap}
-use mathlib.Core.List.{List, [], ◌++◌, append-nil, append_assoc}
-use Prim.Native.Nat.{ℕ, zero, suc, ◌+◌, ◌-◌, ◌*◌, ◌/◌, ◌%◌, ◌^◌, ◌≤◌, ◌<◌}
-use native.Mathlib.Nat.{lt_of_lt_of_le, sub-zero, sub_self}
-use native.Mathlib.Numerals.{add-one}
-use native.Mathlib.Omega.{arith}
-use lib.ListN.{length, take, drop, get_or, set, length-drop, drop_of_length-le}
-use lib.Seq.{take_all, take_at, drop_at, drop-drop}
+use Rattle.std.proofs.Common.{◌≡◌, ◌∙◌, sym, ap, List, [], ◌++◌, append-nil, append_assoc, ℕ, zero, suc, ◌+◌, ◌-◌, ◌*◌, ◌/◌, ◌%◌, ◌^◌, ◌≤◌, ◌<◌, lt_of_lt_of_le, add-one, arith, length, take, drop, get_or, set, length-drop, drop_of_length-le, take_all, take_at, drop_at, drop-drop, pow_mono, shr-shr}
+use Rattle.std.proofs.Math.Nat.{sub-zero, sub_self}
 use borrow.Rule.Slice.PartMut.{put_mid}
-use lib.Pow.{pow_mono, shr-shr}
 use Rattle.meaning.specs.Numbers.{number, bytes_of}
 use Rattle.lemmas.specs.Bytes.{number_more, summed, number-summed, number-take_lt, number_part_lt, length-bytes_of, bytes_of_store}
 use Rattle.bytes_le.specs.Little.{Little}
@@ -50,6 +43,9 @@ read_all n i r s bytes done e =
     let is : r ≡ number (take n s) = rw (first, sub-zero n) at e in
     record { is = is; small = rw is (number-take_lt n s bytes) }
 
+-- the number so far, before the first byte that is read, with one more, and at the last
+pub ruleset reading = (read_none, room, read_more, read_all)
+
 -- what is left of x after one byte more
 pub rest_more : (i x rest : ℕ) → rest ≡ x / 2 ^ (8 * i) → rest / 256 ≡ x / 2 ^ (8 * (i + 1))
 rest_more i x rest e =
@@ -60,11 +56,6 @@ rest_more i x rest e =
 pub store_more : (i x rest : ℕ) (s part : List ℕ) → i < length s → rest ≡ x / 2 ^ (8 * i) → part ≡ bytes_of i x ++ drop i s
     → set part i (rest % 256) ≡ bytes_of (i + 1) x ++ drop (i + 1) s
 store_more i x rest s part h e f = rw (e, f, add-one i) (bytes_of_store i x s h)
-
-pub store_all : (n i x : ℕ) (s part : List ℕ) → i ≤ n → n ≤ i → part ≡ bytes_of i x ++ drop i s → part ≡ bytes_of n x ++ drop n s
-store_all n i x s part h l e =
-    let last : i ≡ n = omega arith in
-    rw last at e
 
 -- four bytes and the next four are eight
 bytes_eight : (x : ℕ) → bytes_of 8 x ≡ bytes_of 4 x ++ bytes_of 4 (x / 4294967296)

@@ -8,6 +8,7 @@ ghost use Rattle.std.specs.Prelude.{◌≡◌, ◌++◌, ◌+◌, ◌≤◌, ◌
 ghost use Rattle.meaning.specs.Numbers.{bytes_of};
 ghost use Rattle.meaning.specs.Call.{u64};
 ghost use Rattle.bytes_le.specs.Little.{Little};
+
 // The byte, widened by a function, which leaves a reader no need that it fits.
 fn wide(x: u8) -> u64
     ensures { (result ≡ x) × (result < 256) }
@@ -31,6 +32,7 @@ fn eight(part: &[u8]) -> u64
 }
 
 // From the last byte down, so that each turn makes room for the next byte below.
+#[tactic(auto, using(crate::proofs::Laws::reading))]
 fn each(part: &[u8], n: usize) -> u64
     requires n_bound { n ≤ 8 }
     requires n_in_bounds { n ≤ length part.now }
@@ -97,6 +99,7 @@ fn put_eight(part: &mut [u8], x: u64)
     put_four(&mut part[4..], x / 4294967296);
 }
 
+#[tactic(auto, using(crate::proofs::Laws::rest_more, crate::proofs::Laws::store_more), unfolding(meaning::specs::Numbers::bytes_of))]
 fn put_each(part: &mut [u8], n: usize, x: u64)
     requires { n ≤ length part.old }
     ensures { part.new ≡ bytes_of n x ++ drop n part.old }

@@ -1,13 +1,7 @@
 -- A symbol's row is a part of the table or one of the fixed two, and the refusal of a value by its row. Over plain numbers and lists.
-use Prim.Native.Nat.{ℕ, zero, suc, ◌+◌, ◌-◌, ◌*◌, ◌/◌, ◌%◌, ◌^◌, ◌≤◌, ◌<◌}
-use native.Mathlib.Nat.{zero-div}
-use native.Mathlib.Omega.{arith}
-use mathlib.Core.List.{List}
-use mathlib.Core.Path.{◌≡◌, refl, sym, ap, ◌∙◌}
-use mathlib.Core.Bool.{Bool, true, false}
-use borrow.Author.Tests.{lt-ltb, le-ltb, eq-eqb, ne_eqb, ltb-true, ltb-false}
-use lib.Dec.{ltb}
-use lib.ListN.{length, take, drop, get_or, get_or-eq_default}
+use Rattle.std.proofs.Common.{ℕ, zero, suc, ◌+◌, ◌-◌, ◌*◌, ◌/◌, ◌%◌, ◌^◌, ◌≤◌, ◌<◌, arith, List, ◌≡◌, refl, sym, ap, ◌∙◌, Bool, true, false, eq-eqb, ltb-true, ltb-false, ltb, length, take, drop, get_or}
+use Rattle.std.proofs.Math.Nat.{zero-div}
+use Rattle.std.proofs.Math.ListN.{get_or-eq_default}
 use Rattle.meaning.specs.Numbers.{number, bytes_of}
 use Rattle.meaning.specs.Call.{row_bytes, rows_of, row_of, no_row, mask}
 use Rattle.lemmas.specs.Pieces.{piece-at, length_cut, length-piece}
@@ -39,6 +33,9 @@ row_there values (suc k) z h =
     let n : row_bytes * k + row_bytes - row_bytes * k ≡ row_bytes = omega arith in
     simp (e, n) (sym (piece-at row_bytes values (length values / row_bytes) k no_row (omega arith)))
 
+-- the part that is handed back
+pub ruleset rows = (fixed_long, row_past, row_there)
+
 -- every row is whole
 pub row_whole : (values : List ℕ) (symbol : ℕ) → length (row_of (rows_of values) symbol) ≡ row_bytes
 unfolding bytes_of
@@ -53,9 +50,6 @@ row_whole values (suc k) = go (ltb k (length values / row_bytes)) refl
         let past : length (rows_of values) ≤ k =
         rw (length_cut row_bytes (length values / row_bytes) values) (ltb-false k (length values / row_bytes) e) in
         ap length (get_or-eq_default (rows_of values) no_row past)
-
--- the part that is handed back
-pub ruleset rows = (fixed_long, row_past, row_there)
 
 -- past the rows it is the row of nothing
 pub row_none : (values : List ℕ) (symbol : ℕ) → length values / row_bytes < symbol → row_of (rows_of values) symbol ≡ no_row
@@ -77,9 +71,3 @@ module _ (row : List ℕ) (bit rows symbol : ℕ) (none : rows < symbol → row 
           let nothing : 0 / 2 ^ bit % 2 ≡ 1 = rw empty at h in
           absurd (omega (arith, rw zero-div at nothing))
       go false e = simp (e, eq-eqb (mask row / 2 ^ bit % 2) 1 h)
-
-  pub refusal-past : rows < symbol → 6 ≡ refusal_at row bit rows symbol
-  refusal-past h = simp (lt-ltb rows symbol h)
-
-  pub refusal-absent : (mask row / 2 ^ bit % 2 ≡ 1 → ⊥) → symbol ≤ rows → 7 ≡ refusal_at row bit rows symbol
-  refusal-absent z h = simp (le-ltb rows symbol h, ne_eqb (mask row / 2 ^ bit % 2) 1 z)

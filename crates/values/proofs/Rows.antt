@@ -1,15 +1,5 @@
 -- The masks, over plain lists: what holds before each row, and how a turn goes on.
-use Prim.Native.Nat.{ℕ, suc, ◌+◌, ◌*◌, ◌/◌, ◌≤◌, ◌<◌}
-use native.Mathlib.Numerals.{add-one}
-use native.Mathlib.Omega.{arith}
-use mathlib.Core.Bool.{true, false}
-use mathlib.Core.List.{List, [], ◌∷◌}
-use mathlib.Core.Path.{◌≡◌, sym, ap, ◌∙◌, subst, subst⁻¹}
-use borrow.Author.Tests.{lt-ltb, le-ltb}
-use lib.Bits.{bit_and, bit_or, and_le_l, and_le_r, or_add_and}
-use lib.Dec.{ltb}
-use lib.ListN.{length, drop}
-use lib.Seq.{take-take}
+use Rattle.std.proofs.Common.{ℕ, suc, ◌+◌, ◌*◌, ◌/◌, ◌≤◌, ◌<◌, add-one, arith, true, false, List, [], ◌∷◌, ◌≡◌, sym, ap, ◌∙◌, subst, lt-ltb, le-ltb, ltb, length, drop, take-take}
 use Rattle.meaning.specs.Numbers.{number}
 use Rattle.meaning.specs.Call.{row_bytes, rows_of, mask, u64}
 use Rattle.meaning.specs.Checks.{Answer, answer, first, mask_limit, of_masks}
@@ -50,22 +40,13 @@ module _ (s : List ℕ) (i : ℕ) (h : i < length s / row_bytes) (m : Masked s i
   masked_next k =
       let t : ltb mask_limit (mask (piece row_bytes s i)) ≡ false =
       le-ltb mask_limit (mask (piece row_bytes s i)) (subst (λ (y : ℕ). y ≤ mask_limit) (e ∙ mask_at s i) k) in
-      subst⁻¹ (Masked s) (add-one i) (rw t at turn)
+      rw add-one (rw t at turn)
 
 pub masked_end : (s : List ℕ) (i : ℕ) → i ≡ length s / row_bytes → Masked s i → answer 0 0 ≡ of_all s
 unfolding Masked of_masks first
 masked_end s i e m =
-    let none : pieces_from row_bytes s (length s / row_bytes) i ≡ [] =
-    subst⁻¹ (λ (j : ℕ). pieces_from row_bytes s (length s / row_bytes) j ≡ []) e (from_end row_bytes s (length s / row_bytes)) in
+    let none : pieces_from row_bytes s (length s / row_bytes) i ≡ [] = rw e (from_end row_bytes s (length s / row_bytes)) in
     ap (λ (x : List (List ℕ)). first (of_masks i x) (answer 0 0)) (sym none) ∙ m
-
--- masks or-ed are no less than each
-pub or_most : (a b : ℕ) → (a ≤ bit_or a b) × (b ≤ bit_or a b)
-or_most a b =
-    let sum = or_add_and a b in
-    let l : bit_and a b ≤ a = and_le_l a b in
-    let r : bit_and a b ≤ b = and_le_r a b in
-    (omega arith, omega arith)
 
 -- the answer of the masks before the first row, after one row more, and past the last
 pub ruleset masks = (masked_start, masked_next, masked_end)

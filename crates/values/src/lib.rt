@@ -71,7 +71,7 @@ pub fn value(row: &[u8], bit: u32) -> u64
 }
 
 // All the masks or-ed: where that is at most 63, each of them is.
-#[tactic(auto, using(crate::proofs::Rows::masks, crate::proofs::Rows::or_most))]
+#[tactic(auto, using(crate::proofs::Rows::masks, std::proofs::lemmas::Nat::le_or_l, std::proofs::lemmas::Nat::le_or_r))]
 fn all_masks(values: &[u8]) -> u64
     ensures { result ≤ C.mask_limit → C.answer 0 0 ≡ C.first (C.of_masks 0 (rows_of values.now)) (C.answer 0 0) }
 {
