@@ -10,7 +10,7 @@ use lib.Dec.{eqb}
 use lib.IntN.{ℤ}
 use lib.ListN.{length}
 use Rattle.meaning.specs.Table.{Semantics}
-use Rattle.meaning.specs.Call.{Call, Setting, Record, card64, row_bytes, rows_of, row_of, symbol_in, does, record_with, record_of, records_of}
+use Rattle.meaning.specs.Call.{Call, Record, card64, row_bytes, rows_of, row_of, symbol_in, does, record_with, record_of, records_of}
 use Rattle.meaning.specs.Stack.{depth, after}
 use Rattle.meaning.specs.Checks.{Answer, answer, answer_at, first, of_record, of_records}
 use Rattle.meaning.specs.Patch.{effect, patched}

@@ -38,6 +38,7 @@ impl Answer {
 }
 
 // Refusals 1 and 2: the limits and the whole pieces of the three buffers, given by their lengths.
+#[tactic(auto, unfolding(meaning::specs::Checks::first))]
 fn limits(section: usize, records: usize, values: usize) -> Answer
     ensures { Answers result (C.first (limit_checks section records values) (C.answer 0 0)) }
 {
