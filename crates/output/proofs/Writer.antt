@@ -20,16 +20,12 @@ use Rattle.frames.proofs.Laws.{laid_none, laid_cons, laid-append, length-laid}
 
 -- ---- one write after another
 
-pub laid_one : (at b : ℕ) (s : List ℕ) → at < length s → set s at b ≡ laid at (b ∷ []) s
-laid_one at b s h = sym (laid_cons at s b [] h ∙ laid_none (suc at) (set s at b))
+pub laid_one : (at b : ℕ) (s : List ℕ) → at < length s → laid at (b ∷ []) s ≡ set s at b
+laid_one at b s h = laid_cons at s b [] h ∙ laid_none (suc at) (set s at b)
 
-pub laid_then : (at m : ℕ) (v w s : List ℕ) {next : List ℕ} → next ≡ laid at v s → m ≡ at + length v → at + length v ≤ length s →
-    laid m w next ≡ laid at (v ++ w) s
-laid_then at m v w s e n h = rw (e, n) (sym (laid-append at v w s h))
-
-pub laid_front : (w s : List ℕ) → laid 0 w s ≡ w ++ drop (length w) s
+pub laid_front : (n : ℕ) (w s : List ℕ) → n ≡ length w → w ++ drop n s ≡ laid 0 w s
 unfolding laid
-laid_front w s = rw zero-add
+laid_front n w s e = rw (e, zero-add)
 
 -- ---- digits
 
@@ -51,33 +47,30 @@ pow_16 (suc k) =
     let e : 4 * suc k ≡ 4 * k + 4 = omega arith in
     ap (λ (n : ℕ). 2 ^ n) e ∙ pow-add 2 (4 * k) 4 ∙ ap (λ (n : ℕ). n * 16) (pow_16 k) ∙ sym (ap (λ (n : ℕ). 16 ^ n) (sym (add-one k)) ∙ pow-add 16 k 1)
 
-pub digits_more : (to left x d : ℕ) (out : List ℕ) {z : List ℕ} → 0 < left → to < length out → d ≡ digit_for (x / 2 ^ (4 * (left - 1)) % 16) →
-    z ≡ laid to (digits left x) out → z ≡ laid (to + 1) (digits (left - 1) x) (set out to d)
+pub digits_next : (to left x d : ℕ) (out : List ℕ) → 0 < left → to < length out → d ≡ digit_for (x / 2 ^ (4 * (left - 1)) % 16) →
+    laid (to + 1) (digits (left - 1) x) (set out to d) ≡ laid to (digits left x) out
 unfolding digits
-digits_more to zero x d out p h e q = absurd (not-suc-le-zero p)
-digits_more to (suc k) x d out p h e q =
+digits_next to zero x d out p h e = absurd (not-suc-le-zero p)
+digits_next to (suc k) x d out p h e =
     let n : suc k - 1 ≡ k = omega arith in
-    rw (add-one, n, e, n, pow_16 k) (q ∙ laid_cons to out (digit_for (x / 16 ^ k % 16)) (digits k x) h)
+    rw (add-one, n, e, n, pow_16 k) (sym (laid_cons to out (digit_for (x / 16 ^ k % 16)) (digits k x) h))
 
-pub digits_done : (to left x : ℕ) (out : List ℕ) {z : List ℕ} → left ≤ 0 → z ≡ laid to (digits left x) out → out ≡ z
+pub digits_done : (to left x : ℕ) (out : List ℕ) → left ≤ 0 → laid to (digits left x) out ≡ out
 unfolding digits
-digits_done to zero x out h q = sym (q ∙ laid_none to out)
-digits_done to (suc k) x out h q = absurd (not-suc-le-zero h)
+digits_done to zero x out h = laid_none to out
+digits_done to (suc k) x out h = absurd (not-suc-le-zero h)
 
 module _ (to i : ℕ) (bs out : List ℕ) where
-  pub bytes_more : (b : ℕ) (next : List ℕ) {z : List ℕ} → i < length bs → to + 2 ≤ length out → b ≡ get_or bs i 0 →
-      next ≡ laid to (digits 2 b) out → z ≡ laid to (digits_of (drop i bs)) out → z ≡ laid (to + 2) (digits_of (drop (i + 1) bs)) next
+  pub bytes_next : i < length bs → to + 2 ≤ length out →
+      laid (to + 2) (digits_of (drop (i + 1) bs)) (laid to (digits 2 (get_or bs i 0)) out) ≡ laid to (digits_of (drop i bs)) out
   unfolding digits_of
-  bytes_more b next h k e w q =
-      let n : to + 2 ≡ to + length (digits 2 b) = ap (λ (m : ℕ). to + m) (sym (length_digits 2 b)) in
-      q ∙ ap (λ (l : List ℕ). laid to (digits_of l) out) (drop-cons bs i 0 h)
-      ∙ ap (λ (x : ℕ). laid to (digits 2 x ++ digits_of (drop (suc i) bs)) out) (sym e)
-      ∙ sym (laid_then to (to + 2) (digits 2 b) (digits_of (drop (suc i) bs)) out w n (rw (← n) k))
-      ∙ ap (λ (j : ℕ). laid (to + 2) (digits_of (drop j bs)) next) (sym (add-one i))
+  bytes_next h k =
+      let n : length (digits 2 (get_or bs i 0)) ≡ 2 = length_digits 2 (get_or bs i 0) in
+      rw (add-one i, drop-cons bs i 0 h, laid-append to (digits 2 (get_or bs i 0)) (digits_of (drop (suc i) bs)) out (omega arith), n)
 
-  pub bytes_done : {z : List ℕ} → length bs ≤ i → z ≡ laid to (digits_of (drop i bs)) out → out ≡ z
+  pub bytes_done : length bs ≤ i → laid to (digits_of (drop i bs)) out ≡ out
   unfolding digits_of
-  bytes_done h q = sym (q ∙ ap (λ (l : List ℕ). laid to (digits_of l) out) (drop_of_length-le bs {i = i} h) ∙ laid_none to out)
+  bytes_done h = rw (drop_of_length-le bs {i = i} h) (laid_none to out)
 
 -- ---- a line, and the section's lines
 
@@ -94,23 +87,8 @@ length-place_line place offset =
     length-append (digits 8 place) (digits 16 offset ++ line_feed)
     ∙ ap₂ ◌+◌ (length_digits 8 place) (length-append (digits 16 offset) line_feed ∙ ap (λ (n : ℕ). n + 1) (length_digits 16 offset))
 
--- two pieces of text, one after the other, and a line feed
-module _ (at end n m : ℕ) (v w s one two : List ℕ) (n₁ : length v ≡ n) (n₂ : length w ≡ m) (fits : at + (n + m + 1) ≤ length s)
-    (e₁ : one ≡ laid at v s) (e₂ : two ≡ laid (at + n) w one) (e : end ≡ at + (n + m)) where
-  both_laid : two ≡ laid at (v ++ w) s
-  both_laid = e₂ ∙ laid_then at (at + n) v w s e₁ (ap (λ (k : ℕ). at + k) (sym n₁)) (omega (arith, n₁))
-
-  n₃ : length (v ++ w) ≡ n + m
-  n₃ = length-append v w ∙ omega (arith, n₁, n₂)
-
-  pub line_whole : length two ≡ length s
-  line_whole = ap length both_laid ∙ length-laid at s (v ++ w) (omega (arith, n₃))
-
-  pub line-put : set two end 10 ≡ laid at (v ++ (w ++ line_feed)) s
-  line-put =
-      laid_one end 10 two (omega (arith, line_whole))
-      ∙ laid_then at end (v ++ w) line_feed s both_laid (e ∙ ap (λ (k : ℕ). at + k) (sym n₃)) (omega (arith, n₃))
-      ∙ ap (λ (l : List ℕ). laid at l s) (append_assoc v w line_feed)
+-- what is written piece by piece
+pub ruleset pieces = (laid-append, laid_one, length-append, length-laid, length_digits, length-digits_of)
 
 frames02_cons : (p : List ℕ) (ps : List (List ℕ)) → frames02 (p ∷ ps) ≡ frame02 p ++ frames02 ps
 unfolding frames02
@@ -149,19 +127,21 @@ section-more s from end h a b k =
         )
 
 module _ (s : List ℕ) (from end : ℕ) (h : from < length s) (a : end ≤ from + 64) (b : end ≤ length s) (k : end < from + 64 → end ≡ length s) where
-  pub section-length : length (section_lines (drop from s)) ≡ 2 * length (take (end - from) (drop from s)) + 3 + length (section_lines (drop end s))
-  section-length =
+  pub section_length : length (section_lines (drop from s)) ≡ 2 * length (take (end - from) (drop from s)) + 3 + length (section_lines (drop end s))
+  section_length =
       ap length (section-more s from end h a b k)
       ∙ length-append (frame02 (take (end - from) (drop from s))) (section_lines (drop end s))
       ∙ ap (λ (n : ℕ). n + length (section_lines (drop end s))) (length-frame02 (take (end - from) (drop from s)))
 
-  pub section-laid : (to to' : ℕ) (out next : List ℕ) {z : List ℕ} → to' ≡ to + (2 * length (take (end - from) (drop from s)) + 3) →
-      to + (2 * length (take (end - from) (drop from s)) + 3) ≤ length out → next ≡ laid to (frame02 (take (end - from) (drop from s))) out →
-      z ≡ laid to (section_lines (drop from s)) out → z ≡ laid to' (section_lines (drop end s)) next
-  section-laid to to' out next n fits e q =
-      let m : length (frame02 (take (end - from) (drop from s))) ≡ 2 * length (take (end - from) (drop from s)) + 3 = length-frame02 (take (end - from) (drop from s)) in
-      q ∙ ap (λ (w : List ℕ). laid to w out) (section-more s from end h a b k)
-      ∙ sym (laid_then to to' (frame02 (take (end - from) (drop from s))) (section_lines (drop end s)) out e (omega arith) (omega arith))
+  pub section_laid : (to : ℕ) (out : List ℕ) → to + (2 * length (take (end - from) (drop from s)) + 3) ≤ length out →
+      laid (to + (2 * length (take (end - from) (drop from s)) + 3)) (section_lines (drop end s)) (laid to (frame02 (take (end - from) (drop from s))) out)
+      ≡ laid to (section_lines (drop from s)) out
+  section_laid to out fits =
+      let m = length-frame02 (take (end - from) (drop from s)) in
+      sym
+      (ap (λ (w : List ℕ). laid to w out) (section-more s from end h a b k)
+      ∙ laid-append to (frame02 (take (end - from) (drop from s))) (section_lines (drop end s)) out (omega arith)
+      ∙ ap (λ (n : ℕ). laid (to + n) (section_lines (drop end s)) (laid to (frame02 (take (end - from) (drop from s))) out)) m)
 
 pub section_end : (s : List ℕ) (from : ℕ) → length s ≤ from → section_lines (drop from s) ≡ []
 unfolding section_lines frames02 cut
@@ -186,34 +166,12 @@ section_fits s h = rw (lines_fit ((length s + 63) / 64) s (omega arith)) (omega 
 
 -- ---- the whole output
 
--- the n bytes w stand in front, and what came stands after them
-pub record Front (w came is : List ℕ) (n : ℕ) : Type 0 where
-  pub laid_over : is ≡ laid 0 w came
-  pub long : length w ≡ n
-  pub whole : length is ≡ length came
-
-pub front_none : (s : List ℕ) → Front [] s s 0
-front_none s = record { laid_over = sym (laid_none 0 s); long = refl; whole = refl }
-
-module _ {w came is : List ℕ} {n : ℕ} (f : Front w came is n) where
-  pub front_more : (v : List ℕ) (m : ℕ) {next : List ℕ} → length v ≡ m → n + m ≤ length came → next ≡ laid n v is → Front (w ++ v) came next (n + m)
-  front_more v m {next = next} e fits q =
-      let l = f.long in
-      let all : next ≡ laid 0 (w ++ v) came = q ∙ laid_then 0 n w v came f.laid_over (omega arith) (omega arith) in
-      let sum : length (w ++ v) ≡ n + m = length-append w v ∙ omega arith in
-      record { laid_over = all; long = sum; whole = ap length all ∙ length-laid 0 came (w ++ v) (omega arith) }
-
-  -- where that is all of the output
-  pub front_all : (v : List ℕ) → w ≡ v → (is ≡ v ++ drop n came) × (n ≡ length v)
-  front_all v e =
-      (f.laid_over ∙ laid_front w came ∙ ap (λ (m : ℕ). w ++ drop m came) f.long ∙ ap (λ (x : List ℕ). x ++ drop n came) e, sym f.long ∙ ap length e)
-
-pub accepted_is : (place offset : ℕ) (section : List ℕ) →
-    (([] ++ digits 2 0) ++ place_line place offset) ++ section_lines section ≡ written (answer_at 0 place offset) section
+pub accepted_is : (number place offset : ℕ) (section : List ℕ) → number ≡ 0 →
+    written (answer_at number place offset) section ≡ (digits 2 0 ++ place_line place offset) ++ section_lines section
 unfolding written
-accepted_is place offset section = simp append_assoc
+accepted_is number place offset section h = simp (h, append_assoc)
 
 pub refused_is : (number place offset : ℕ) (section : List ℕ) → (number ≡ 0 → ⊥) →
-    (([] ++ digits 2 255) ++ digits 2 number) ++ place_line place offset ≡ written (answer_at number place offset) section
+    written (answer_at number place offset) section ≡ (digits 2 255 ++ digits 2 number) ++ place_line place offset
 unfolding written
 refused_is number place offset section h = simp (ne_eqb number 0 h, append_assoc)

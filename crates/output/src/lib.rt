@@ -17,6 +17,7 @@ fn wide(x: u8) -> u64
 }
 
 // The digit for a number below 16. Lower case is written.
+#[tactic(auto, unfolding(meaning::specs::Frames::digit_for))]
 fn digit_for(d: u64) -> u8
     requires { d < 16 }
     ensures { result ≡ F.digit_for d }
@@ -28,6 +29,7 @@ fn digit_for(d: u64) -> u8
 }
 
 // Writes the low n digits of x at `at`, the highest first.
+#[tactic(auto, using(crate::proofs::Writer::digits_next, crate::proofs::Writer::digits_done))]
 fn put_digits(out: &mut [u8], at: usize, n: usize, x: u64)
     requires { (n ≤ 16) × (at + n ≤ length out.old) }
     ensures { out.new ≡ laid at (F.digits n x) out.old }
@@ -42,6 +44,7 @@ fn put_digits(out: &mut [u8], at: usize, n: usize, x: u64)
 }
 
 // Writes bytes at `at`, two digits each.
+#[tactic(auto, using(crate::proofs::Writer::bytes_next, crate::proofs::Writer::bytes_done))]
 fn put_bytes(out: &mut [u8], at: usize, bytes: &[u8])
     requires { at + 2 * length bytes.now ≤ length out.old }
     ensures { out.new ≡ laid at (F.digits_of bytes.now) out.old }
@@ -56,6 +59,7 @@ fn put_bytes(out: &mut [u8], at: usize, bytes: &[u8])
 }
 
 // Writes one 02 line, and answers the place after it.
+#[tactic(auto, using(crate::proofs::Writer::pieces))]
 fn put_line(out: &mut [u8], at: usize, bytes: &[u8]) -> usize
     requires { at + (2 * length bytes.now + 3) ≤ length out.old }
     ensures out_after { out.new ≡ laid at (frame02 bytes.now) out.old }
@@ -81,6 +85,7 @@ fn piece_end(from: usize, len: usize) -> usize
 }
 
 // Writes the section as 02 lines of 64 bytes, the last shorter, and answers the place after them.
+#[tactic(auto, using(crate::proofs::Writer::section_end, frames::proofs::Laws::laid_none))]
 fn put_section(out: &mut [u8], at: usize, section: &[u8]) -> usize
     requires { at + length (F.section_lines section.now) ≤ length out.old }
     ensures out_after { out.new ≡ laid at (F.section_lines section.now) out.old }
@@ -97,6 +102,7 @@ fn put_section(out: &mut [u8], at: usize, section: &[u8]) -> usize
 }
 
 // Writes a place, an offset and the line's end, and answers the place after them.
+#[tactic(auto, using(crate::proofs::Writer::pieces))]
 fn put_place(out: &mut [u8], at: usize, place: u32, offset: u64) -> usize
     requires { at + 25 ≤ length out.old }
     ensures out_after { out.new ≡ laid at (place_line place offset) out.old }
@@ -110,6 +116,7 @@ fn put_place(out: &mut [u8], at: usize, place: u32, offset: u64) -> usize
 }
 
 // Writes the program's output for an answer and a section into the front of `out`, and answers how long it is.
+#[tactic(auto, using(crate::proofs::Writer::pieces, crate::proofs::Writer::laid_front, crate::proofs::Writer::section_fits, crate::proofs::Writer::accepted_is, crate::proofs::Writer::refused_is))]
 pub fn write(section: &[u8], number: u32, place: u32, offset: u64, out: &mut [u8]) -> usize
     requires section_len_bound { length section.now ≤ section_limit }
     requires out_len { length out.old ≡ output_bytes }
