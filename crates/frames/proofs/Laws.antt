@@ -3,12 +3,12 @@ use Prim.Native.Nat.{ℕ, zero, suc, ◌+◌, ◌-◌, ◌*◌, ◌/◌, ◌%◌
 use native.Mathlib.Nat.{add-zero, le_of_suc-le-suc, not-suc-le-zero}
 use native.Mathlib.Numerals.{add-one}
 use native.Mathlib.Omega.{arith}
-use mathlib.Core.Bool.{Bool, true, false, cond, ◌&&◌, ◌||◌, false≢true}
+use mathlib.Core.Bool.{Bool, true, false, cond, ◌&&◌, false≢true}
 use mathlib.Core.List.{List, [], ◌∷◌, ◌++◌, append_assoc, append-nil}
 use mathlib.Core.Path.{◌≡◌, refl, sym, ap, ◌∙◌, subst}
-use borrow.Author.Tests.{lt-ltb, ne_eqb, ltb-true, ltb-false, leb-true}
 use borrow.Rule.Slice.PartMut.{put_mid}
-use lib.Dec.{eqb, ltb, leb}
+use Rattle.std.proofs.lemmas.Bool.Decides.{nat_tests}
+use lib.Dec.{eqb, ltb}
 use lib.ListN.{length, take, drop, get_or, set, length-append, length-drop, length-set, take-append-drop, drop_of_length-le}
 use lib.Pow.{pow-add, pow_mono}
 use lib.Seq.{drop-cons, take-suc-set, drop-set-lt, length-take-le, take_at, drop_at, drop-drop}
@@ -17,76 +17,21 @@ use Rattle.frames.specs.Text.{line_length, digits_length, laid}
 
 -- ---- a digit
 
-pub data Digit (b : ℕ) : Type 0 where
-  decimal : 48 ≤ b → b ≤ 57 → digit b ≡ b - 48 → Digit b
-  upper : 65 ≤ b → b ≤ 70 → digit b ≡ 10 + (b - 65) → Digit b
-  lower : 97 ≤ b → b ≤ 102 → digit b ≡ 10 + (b - 97) → Digit b
-  none : digit b ≡ 16 → Digit b
-
 pub both : (a b : Bool) → a && b ≡ true → (a ≡ true) × (b ≡ true)
 both true b e = (refl, e)
 both false b e = absurd (false≢true e)
 
-between : (low b high : ℕ) → (leb low b && leb b high) ≡ true → (low ≤ b) × (b ≤ high)
-between low b high e = let h = both (leb low b) (leb b high) e in (leb-true low b h.0, leb-true b high h.1)
-
-module _ (b : ℕ) where
-  pub which : Digit b
-  unfolding digit
-  which = go (leb 48 b && leb b 57) (leb 65 b && leb b 70) (leb 97 b && leb b 102) refl refl refl
-    where
-      go : (x y z : Bool) → (leb 48 b && leb b 57) ≡ x → (leb 65 b && leb b 70) ≡ y → (leb 97 b && leb b 102) ≡ z → Digit b
-      go true y z p q r = let h = between 48 b 57 p in decimal h.0 h.1 (rw p)
-      go false true z p q r = let h = between 65 b 70 q in upper h.0 h.1 (rw (p, q))
-      go false false true p q r = let h = between 97 b 102 r in lower h.0 h.1 (rw (p, q, r))
-      go false false false p q r = none (rw (p, q, r))
-
-  -- the three tests together
-  pub tests : (x y z : Bool) → x ≡ (leb 48 b && leb b 57) → y ≡ (leb 65 b && leb b 70) → z ≡ (leb 97 b && leb b 102) → (x || y) || z ≡ ltb (digit b) 16
-  unfolding digit
-  tests true y z p q r = let h = between 48 b 57 (sym p) in sym (rw (← p) (lt-ltb (b - 48) 16 (omega arith)))
-  tests false true z p q r = let h = between 65 b 70 (sym q) in sym (rw (← p, ← q) (lt-ltb (10 + (b - 65)) 16 (omega arith)))
-  tests false false true p q r = let h = between 97 b 102 (sym r) in sym (rw (← p, ← q, ← r) (lt-ltb (10 + (b - 97)) 16 (omega arith)))
-  tests false false false p q r = sym (rw (← p, ← q, ← r))
-
-  pub value_low : digit b < 16 → b < 64 → b % 16 ≡ digit b
-  value_low d h = go which
-    where
-      go : Digit b → b % 16 ≡ digit b
-      go (decimal l u e) = omega arith
-      go (upper l u e) = omega arith
-      go (lower l u e) = omega arith
-      go (none e) = omega arith
-
-  pub value_high : digit b < 16 → 64 ≤ b → b % 16 + 9 ≡ digit b
-  value_high d h = go which
-    where
-      go : Digit b → b % 16 + 9 ≡ digit b
-      go (decimal l u e) = omega arith
-      go (upper l u e) = omega arith
-      go (lower l u e) = omega arith
-      go (none e) = omega arith
-
-  -- a digit is no line feed, and below 128
-  pub no_feed : digit b < 16 → (11 ≤ b) × (b < 128)
-  no_feed d = go which
-    where
-      go : Digit b → (11 ≤ b) × (b < 128)
-      go (decimal l u e) = (omega arith, omega arith)
-      go (upper l u e) = (omega arith, omega arith)
-      go (lower l u e) = (omega arith, omega arith)
-      go (none e) = (omega arith, omega arith)
+-- a digit is no line feed, and below 128
+pub no_feed : (b : ℕ) → digit b < 16 → (11 ≤ b) × (b < 128)
+unfolding digit
+no_feed b d = (grind (arith, nat_tests), grind (arith, nat_tests))
 
 -- ---- a line
 
 module _ (s : List ℕ) (at : ℕ) where
   pub feed_test : at < length s → eqb (get_or s at 0) 10 ≡ eqb (line_length (drop at s)) 0
   unfolding line_length
-  feed_test h = rw (drop-cons s at 0 h) (go (eqb (get_or s at 0) 10) (line_length (drop (suc at) s)))
-    where
-      go : (t : Bool) (n : ℕ) → t ≡ eqb (cond t 0 (suc n)) 0
-      go true n = refl
-      go false n = sym (ne_eqb (suc n) 0 (λ e. omega arith))
+  feed_test h = rw (drop-cons s at 0 h) (grind (arith, nat_tests))
 
   pub no_line_here : length s ≤ at → line_length (drop at s) ≡ 0
   unfolding line_length
@@ -138,12 +83,7 @@ pub digits-run : (n : ℕ) (l : List ℕ) → n ≤ length l → all_digits (tak
 unfolding digits_length all_digits
 digits-run zero l h e = omega arith
 digits-run (suc n) [] h e = absurd (not-suc-le-zero h)
-digits-run (suc n) (b ∷ l) h e = go (ltb (digit b) 16) e (digits-run n l (le_of_suc-le-suc h))
-  where
-    go : (t : Bool) → (t && all_digits (take n l)) ≡ true → (all_digits (take n l) ≡ true → digits_length l ≡ n + digits_length (drop n l)) →
-        cond t (suc (digits_length l)) 0 ≡ suc n + digits_length (drop n l)
-    go true e rest = let r : digits_length l ≡ n + digits_length (drop n l) = rest e in omega arith
-    go false e rest = absurd (false≢true e)
+digits-run (suc n) (b ∷ l) h e = let r = digits-run n l (le_of_suc-le-suc h) in grind (arith, nat_tests)
 
 pub sixteen_digits : (at : ℕ) (s : List ℕ) → at + 16 ≤ length s → all_digits (take (at + 16 - at) (drop at s)) ≡ true →
     digits_length (drop at s) ≡ 16 + digits_length (drop (at + 16) s)
@@ -155,36 +95,19 @@ sixteen_digits at s h e =
 pub digits-first : (l : List ℕ) → line_length l ≡ digits_length l + line_length (drop (digits_length l) l)
 unfolding line_length digits_length
 digits-first [] = refl
-digits-first (b ∷ l) = go (ltb (digit b) 16) refl (digits-first l)
-  where
-    go : (t : Bool) → ltb (digit b) 16 ≡ t → line_length l ≡ digits_length l + line_length (drop (digits_length l) l) →
-        cond (eqb b 10) 0 (suc (line_length l)) ≡ cond t (suc (digits_length l)) 0 + line_length (drop (cond t (suc (digits_length l)) 0) (b ∷ l))
-    go true e rest =
-        let f = no_feed b (ltb-true (digit b) 16 e) in
-        let n : eqb b 10 ≡ false = ne_eqb b 10 (λ q. omega arith) in
-        rw n (omega arith)
-    go false e rest = omega arith
+digits-first (b ∷ l) = let r = digits-first l in grind (arith, nat_tests, no_feed)
 
 pub digits_alone : (l : List ℕ) → all_digits (take (digits_length l) l) ≡ true
 unfolding digits_length all_digits
 digits_alone [] = refl
-digits_alone (b ∷ l) = go (ltb (digit b) 16) refl (digits_alone l)
-  where
-    go : (t : Bool) → ltb (digit b) 16 ≡ t → all_digits (take (digits_length l) l) ≡ true → all_digits (take (cond t (suc (digits_length l)) 0) (b ∷ l)) ≡ true
-    go true e rest = rw e rest
-    go false e rest = refl
+digits_alone (b ∷ l) = let r = digits_alone l in grind (arith, nat_tests)
 
 -- what reaches past them has a byte that is no digit
 pub no_digits : (n : ℕ) (l : List ℕ) → digits_length l < n → digits_length l < length l → all_digits (take n l) ≡ false
 unfolding digits_length all_digits
 no_digits n [] h k = absurd (not-suc-le-zero k)
 no_digits zero (b ∷ l) h k = absurd (not-suc-le-zero h)
-no_digits (suc n) (b ∷ l) h k = go (ltb (digit b) 16) h k (no_digits n l)
-  where
-    go : (t : Bool) → cond t (suc (digits_length l)) 0 < suc n → cond t (suc (digits_length l)) 0 < suc (length l) →
-        (digits_length l < n → digits_length l < length l → all_digits (take n l) ≡ false) → (t && all_digits (take n l)) ≡ false
-    go true h k rest = rest (le_of_suc-le-suc h) (le_of_suc-le-suc k)
-    go false h k rest = refl
+no_digits (suc n) (b ∷ l) h k = let r = no_digits n l in grind (arith, nat_tests)
 
 -- the digits from a place on, where they end a line and where they do not
 module _ (s : List ℕ) (at end : ℕ) (is : end ≡ at + digits_length (drop at s)) where
@@ -203,27 +126,14 @@ module _ (s : List ℕ) (at end : ℕ) (is : end ≡ at + digits_length (drop at
   pub line_broken : at ≤ length s → (line_length (drop end s) ≡ 0 → ⊥) → all_digits (take (line_length (drop at s)) (drop at s)) ≡ false
   line_broken o e =
       let q = split in
-      let h = inside (ltb end (length s)) refl in
-      no_digits (line_length (drop at s)) (drop at s) (some (line_length (drop end s)) q e) (rw length-drop (omega arith))
-    where
-      inside : (t : Bool) → ltb end (length s) ≡ t → end < length s
-      inside true p = ltb-true end (length s) p
-      inside false p = absurd (e (no_line_here s end (ltb-false end (length s) p)))
-
-      some : (n : ℕ) → line_length (drop at s) ≡ digits_length (drop at s) + n → (n ≡ 0 → ⊥) → digits_length (drop at s) < line_length (drop at s)
-      some zero q e = absurd (e refl)
-      some (suc n) q e = omega arith
+      let h : end < length s = grind (arith, no_line_here) in
+      no_digits (line_length (drop at s)) (drop at s) (omega (arith, e)) (rw length-drop (omega arith))
 
 pub digits_at : (l : List ℕ) (i : ℕ) → all_digits l ≡ true → i < length l → digit (get_or l i 0) < 16
 unfolding all_digits
 digits_at [] i e h = absurd (not-suc-le-zero h)
-digits_at (b ∷ l) i e h = go i (ltb (digit b) 16) refl e h (digits_at l)
-  where
-    go : (j : ℕ) (t : Bool) → ltb (digit b) 16 ≡ t → t && all_digits l ≡ true → j < suc (length l) →
-        ((k : ℕ) → all_digits l ≡ true → k < length l → digit (get_or l k 0) < 16) → digit (get_or (b ∷ l) j 0) < 16
-    go zero true p q k _ = ltb-true (digit b) 16 p
-    go (suc j) true p q k more = more j q (le_of_suc-le-suc k)
-    go j false p q k _ = absurd (false≢true q)
+digits_at (b ∷ l) zero e h = grind (arith, nat_tests)
+digits_at (b ∷ l) (suc i) e h = digits_at l i (grind (arith, nat_tests)) (le_of_suc-le-suc h)
 
 pub numeral-more : (x m at : ℕ) (l : List ℕ) → at < length l →
     numeral x (take (suc m) (drop at l)) ≡ numeral (16 * x + digit (get_or l at 0)) (take m (drop (suc at) l))
@@ -260,9 +170,9 @@ pub bytes_end : (from : ℕ) (l : List ℕ) → length l ≤ suc from → bytes_
 unfolding bytes_in
 bytes_end zero [] h = refl
 bytes_end zero (b ∷ []) h = refl
-bytes_end zero (b ∷ d ∷ l) h = absurd (not-suc-le-zero (le_of_suc-le-suc h))
+bytes_end zero (b ∷ d ∷ l) h = absurd (omega arith)
 bytes_end (suc from) [] h = refl
-bytes_end (suc from) (b ∷ l) h = bytes_end from l (le_of_suc-le-suc h)
+bytes_end (suc from) (b ∷ l) h = bytes_end from l (omega arith)
 
 pub length_bytes : (l : List ℕ) → length (bytes_in l) ≡ length l / 2
 unfolding bytes_in
@@ -281,7 +191,7 @@ kind_is [] h = absurd (not-suc-le-zero h)
 kind_is (a ∷ []) h = absurd (not-suc-le-zero (le_of_suc-le-suc h))
 kind_is (a ∷ b ∷ line) h = omega arith
 
--- a line that is no well-formed frame, by the first test that says so, and one that is
+-- a line that is no well-formed frame, by the first test that says so
 module _ (last : ℕ) (line : List ℕ) where
   pub no_kind : well_formed last line ≡ false → 0 ≡ cond (well_formed last line) (kind line) 0
   no_kind e = rw e
@@ -377,15 +287,13 @@ digits-taken : (n : ℕ) (l : List ℕ) → all_digits l ≡ true → all_digits
 unfolding all_digits
 digits-taken zero l e = refl
 digits-taken (suc n) [] e = refl
-digits-taken (suc n) (b ∷ l) e =
-    let h = both (ltb (digit b) 16) (all_digits l) e in
-    rw h.0 (digits-taken n l h.1)
+digits-taken (suc n) (b ∷ l) e = let r = digits-taken n l in grind (arith, nat_tests)
 
 pub digits_part : (at n : ℕ) (l : List ℕ) → all_digits l ≡ true → all_digits (take n (drop at l)) ≡ true
 unfolding all_digits
 digits_part zero n l e = digits-taken n l e
 digits_part (suc at) n [] e = digits-taken n [] refl
-digits_part (suc at) n (b ∷ l) e = digits_part at n l (both (ltb (digit b) 16) (all_digits l) e).1
+digits_part (suc at) n (b ∷ l) e = digits_part at n l (grind (arith, nat_tests))
 
 -- eight bytes laid as a part
 module _ (at : ℕ) (s w : List ℕ) (long : length w ≡ 8) where
@@ -409,3 +317,20 @@ module _ (at : ℕ) (s w : List ℕ) (long : length w ≡ 8) where
 
 abbrev pub Paired : List ℕ → List ℕ → ℕ → Type 0
 Paired digits pairs i = (j : ℕ) → j < i → (get_or pairs j 0 % 256 ≡ get_or digits (2 * j) 0) × (get_or pairs j 0 / 256 ≡ get_or digits (2 * j + 1) 0)
+
+-- ---- what the functions' goals ask, by function
+
+-- `digits_end`
+pub ruleset digits_before = (digit_here, no_digit_here, no_digits_here)
+
+-- `kind_of`
+pub ruleset frame_parts = (no_frame, kind_is, length_body, digits_at)
+
+-- `number`
+pub ruleset numerals = (digits_at, numeral_next, numeral_done, digits_room, digit_room)
+
+-- `eight`
+pub ruleset eight_bytes = (digits_at, laid_whole, length_bytes, laid_pair, laid_done)
+
+-- `append`
+pub ruleset bytes_laid = (digits_part, digits_at, piece_length, length_part, laid_eight, laid_next, laid_done)

@@ -6,6 +6,7 @@ use mathlib.Core.Bool.{Bool, true, false, cond, ◌&&◌, false≢true}
 use mathlib.Core.List.{List, [], ◌∷◌, ◌++◌}
 use mathlib.Core.Path.{◌≡◌, refl, sym, ap, ◌∙◌, subst}
 use borrow.Author.Tests.{lt-ltb, le-ltb, ne_eqb, eqb-true, leb-true, ltb-false}
+use Rattle.std.proofs.lemmas.Bool.Decides.{nat_tests}
 use lib.Dec.{eqb, ltb, leb}
 use lib.ListN.{length, take, drop, length-append, length-drop}
 use lib.Seq.{drop-drop, length-take-le, take_all}
@@ -58,14 +59,7 @@ bounds (four p q) = record { some = omega arith; few = omega arith; least = omeg
 -- the last kind is no greater, and 01 comes first
 in_order : (last k : ℕ) → follows last k ≡ true → (last ≤ k) × (k ≡ 1 → last ≡ 0)
 unfolding follows
-in_order last k e = go (eqb last 0) refl e
-  where
-    go : (b : Bool) → eqb last 0 ≡ b → cond b (eqb k 1) (leb 2 k && leb last k) ≡ true → (last ≤ k) × (k ≡ 1 → last ≡ 0)
-    go true p e = let z : last ≡ 0 = eqb-true last 0 p in (omega arith, λ _. z)
-    go false p e =
-        let h = both (leb 2 k) (leb last k) e in
-        let two : 2 ≤ k = leb-true 2 k h.0 in
-        (leb-true last k h.1, λ one. omega arith)
+in_order last k e = (grind (arith, nat_tests), λ one. grind (arith, nat_tests))
 
 pub record Frame (last : ℕ) (line : List ℕ) (k : ℕ) : Type 0 where
   pub formed : well_formed last line ≡ true

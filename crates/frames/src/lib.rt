@@ -24,7 +24,7 @@ fn within(b: u8, low: u8, high: u8) -> bool
 }
 
 // Whether a byte is a digit, of either letter case. No test waits for another, so that the compiler can make them on many bytes at once.
-#[tactic(auto, using(crate::proofs::Laws::tests))]
+#[tactic(auto, unfolding(meaning::specs::Frames::digit))]
 fn is_digit(b: u8) -> bool
     ensures { result ≡ ltb (F.digit b) 16 }
 {
@@ -63,7 +63,7 @@ fn pieces_end(input: &[u8], at: usize) -> usize
 }
 
 // Where the digits that stand from `at` on end.
-#[tactic(auto, using(crate::proofs::Laws::digit_here, crate::proofs::Laws::no_digit_here, crate::proofs::Laws::no_digits_here))]
+#[tactic(auto, using(crate::proofs::Laws::digits_before))]
 fn digits_end(input: &[u8], at: usize) -> usize
     requires { at ≤ length input.now }
     ensures { (result ≡ at + digits_length (drop at input.now)) × (result ≤ length input.now) }
@@ -91,7 +91,7 @@ fn line_ends(input: &[u8], at: usize) -> bool
 }
 
 // The number that a digit stands for.
-#[tactic(auto, using(crate::proofs::Laws::value_low, crate::proofs::Laws::value_high))]
+#[tactic(auto, unfolding(meaning::specs::Frames::digit))]
 fn value(digit: u8) -> u8
     requires { F.digit digit < 16 }
     ensures { result ≡ F.digit digit }
@@ -149,7 +149,7 @@ fn follows(last: u8, kind: u8) -> bool
 }
 
 // The kind of a line of digits that is a well-formed frame after one of kind `last`, and 0 for any other.
-#[tactic(auto, using(crate::proofs::Laws::no_frame, crate::proofs::Laws::kind_is, crate::proofs::Laws::length_body, crate::proofs::Laws::digits_at), unfolding(meaning::specs::Frames::well_formed))]
+#[tactic(auto, using(crate::proofs::Laws::frame_parts), unfolding(meaning::specs::Frames::well_formed))]
 fn kind_of(last: u8, line: &[u8]) -> u8
     requires { F.all_digits line.now ≡ true }
     ensures { result ≡ cond (F.well_formed last line.now) (F.kind line.now) 0 }
@@ -172,7 +172,7 @@ fn kind_of(last: u8, line: &[u8]) -> u8
 }
 
 // The number of the sixteen digits at `at`.
-#[tactic(auto, using(crate::proofs::Laws::digits_at, crate::proofs::Laws::numeral_next, crate::proofs::Laws::numeral_done, crate::proofs::Laws::digits_room, crate::proofs::Laws::digit_room))]
+#[tactic(auto, using(crate::proofs::Laws::numerals))]
 fn number(line: &[u8], at: usize) -> u64
     requires at_in_bounds { at + 16 ≤ length line.now }
     requires line_value { F.all_digits line.now ≡ true }
@@ -202,7 +202,7 @@ fn byte_of(pair: u16) -> u8
 }
 
 // The eight bytes of sixteen digits. The digits are first taken two by two, so that the compiler can decode all eight at once.
-#[tactic(auto, using(crate::proofs::Laws::digits_at, crate::proofs::Laws::laid_whole, crate::proofs::Laws::length_bytes, crate::proofs::Laws::laid_pair, crate::proofs::Laws::laid_done))]
+#[tactic(auto, using(crate::proofs::Laws::eight_bytes))]
 fn eight(digits: &[u8], bytes: &mut [u8])
     requires digits_len { (length digits.now ≡ 16) × (length bytes.old ≡ 8) }
     requires digits_value { F.all_digits digits.now ≡ true }
@@ -222,7 +222,7 @@ fn eight(digits: &[u8], bytes: &mut [u8])
 }
 
 // Lays the bytes of a frame into a buffer, from `used` on.
-#[tactic(auto, using(crate::proofs::Laws::digits_part, crate::proofs::Laws::digits_at, crate::proofs::Laws::piece_length, crate::proofs::Laws::length_part, crate::proofs::Laws::laid_eight, crate::proofs::Laws::laid_next, crate::proofs::Laws::laid_done))]
+#[tactic(auto, using(crate::proofs::Laws::bytes_laid))]
 fn append(buffer: &mut [u8], used: usize, line: &[u8])
     requires in_bounds { 2 ≤ length line.now }
     requires line_value { F.all_digits line.now ≡ true }

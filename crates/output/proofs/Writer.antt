@@ -5,7 +5,7 @@ use native.Mathlib.Numerals.{add-one}
 use native.Mathlib.Omega.{arith}
 use mathlib.Core.Bool.{Bool, true, false}
 use mathlib.Core.List.{List, [], ◌∷◌, ◌++◌, append_assoc}
-use mathlib.Core.Path.{◌≡◌, refl, sym, ap, ap₂, ◌∙◌}
+use mathlib.Core.Path.{◌≡◌, refl, sym, ap, ◌∙◌}
 use borrow.Author.Tests.{eqb-true, eqb-false, ne_eqb}
 use lib.Dec.{eqb}
 use lib.ListN.{length, take, drop, get_or, set, length-append, length-drop, take-append-drop, drop_of_length-le}
@@ -13,7 +13,7 @@ use lib.Pow.{pow-add}
 use lib.Seq.{drop-cons, drop-drop, take_all}
 use Rattle.meaning.specs.Numbers.{cut}
 use Rattle.meaning.specs.Checks.{answer_at, section_limit}
-use Rattle.meaning.specs.Frames.{digit_for, digits, digits_of, line_feed, frames02, section_lines, written}
+use Rattle.meaning.specs.Frames.{digit_for, digits, digits_of, frames02, section_lines, written}
 use Rattle.frames.specs.Text.{laid}
 use Rattle.output.specs.Text.{frame02, place_line, output_bytes}
 use Rattle.frames.proofs.Laws.{laid_none, laid_cons, laid-append, length-laid}
@@ -37,9 +37,7 @@ length_digits (suc n) x = ap suc (length_digits n x)
 pub length-digits_of : (bs : List ℕ) → length (digits_of bs) ≡ 2 * length bs
 unfolding digits_of
 length-digits_of [] = refl
-length-digits_of (b ∷ bs) =
-    let e : length (digits_of bs) ≡ 2 * length bs = length-digits_of bs in
-    length-append (digits 2 b) (digits_of bs) ∙ ap (λ (n : ℕ). n + length (digits_of bs)) (length_digits 2 b) ∙ omega arith
+length-digits_of (b ∷ bs) = rw (length-append, length_digits 2 b, length-digits_of bs) (omega arith)
 
 pow_16 : (k : ℕ) → 2 ^ (4 * k) ≡ 16 ^ k
 pow_16 zero = refl
@@ -75,17 +73,7 @@ module _ (to i : ℕ) (bs out : List ℕ) where
 -- ---- a line, and the section's lines
 
 pub length-frame02 : (bs : List ℕ) → length (frame02 bs) ≡ 2 * length bs + 3
-length-frame02 bs =
-    let e : length (digits_of bs) ≡ 2 * length bs = length-digits_of bs in
-    length-append (digits 2 2) (digits_of bs ++ line_feed)
-    ∙ ap (λ (n : ℕ). n + length (digits_of bs ++ line_feed)) (length_digits 2 2)
-    ∙ ap (λ (n : ℕ). 2 + n) (length-append (digits_of bs) line_feed)
-    ∙ omega arith
-
-pub length-place_line : (place offset : ℕ) → length (place_line place offset) ≡ 25
-length-place_line place offset =
-    length-append (digits 8 place) (digits 16 offset ++ line_feed)
-    ∙ ap₂ ◌+◌ (length_digits 8 place) (length-append (digits 16 offset) line_feed ∙ ap (λ (n : ℕ). n + 1) (length_digits 16 offset))
+length-frame02 bs = simp (length-append, length_digits, length-digits_of) (omega arith)
 
 -- what is written piece by piece
 pub ruleset pieces = (laid-append, laid_one, length-append, length-laid, length_digits, length-digits_of)
@@ -175,3 +163,6 @@ pub refused_is : (number place offset : ℕ) (section : List ℕ) → (number �
     written (answer_at number place offset) section ≡ (digits 2 255 ++ digits 2 number) ++ place_line place offset
 unfolding written
 refused_is number place offset section h = simp (ne_eqb number 0 h, append_assoc)
+
+-- and all of it
+pub ruleset whole = (pieces, laid_front, section_fits, accepted_is, refused_is)

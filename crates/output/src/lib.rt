@@ -7,6 +7,7 @@ ghost use Rattle.meaning.specs.Checks.{answer_at, section_limit};
 ghost use Rattle.meaning.specs.Frames as F;
 ghost use Rattle.frames.specs.Text.{laid};
 ghost use Rattle.output.specs.Text.{frame02, place_line, output_bytes};
+
 // The longest output: a first line of 27 bytes, and a full section's 1,024 lines of 131.
 pub const OUTPUT: usize = 134171;
 
@@ -116,7 +117,7 @@ fn put_place(out: &mut [u8], at: usize, place: u32, offset: u64) -> usize
 }
 
 // Writes the program's output for an answer and a section into the front of `out`, and answers how long it is.
-#[tactic(auto, using(crate::proofs::Writer::pieces, crate::proofs::Writer::laid_front, crate::proofs::Writer::section_fits, crate::proofs::Writer::accepted_is, crate::proofs::Writer::refused_is))]
+#[tactic(auto, using(crate::proofs::Writer::whole))]
 pub fn write(section: &[u8], number: u32, place: u32, offset: u64, out: &mut [u8]) -> usize
     requires section_len_bound { length section.now ≤ section_limit }
     requires out_len { length out.old ≡ output_bytes }
