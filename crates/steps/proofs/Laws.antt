@@ -1,26 +1,17 @@
 -- Judging step by step: one refusal after the other, over plain numbers.
-use Prim.Native.Nat.{ℕ, zero, suc, ◌-◌, ◌%◌, ◌^◌, ◌≤◌, ◌<◌}
-use native.Mathlib.Omega.{arith}
-use mathlib.Core.Bool.{Bool, true, false, cond, not, ◌&&◌, ◌||◌, true≢false, false≢true}
-use mathlib.Core.List.{List, [], ◌++◌, map}
-use mathlib.Core.Path.{◌≡◌, refl, sym, ap, ap₂, ◌∙◌, subst, subst⁻¹}
-use borrow.Author.Tests.{ne_eqb, eq-eqb, ltb-true, ltb-false, le-leb, lt-leb, le-ltb}
-use lib.Dec.{eqb, leb, ltb, eqb-suc-zero, leb-suc-zero}
-use lib.IntN.{ℤ, pos, negsuc, neg_ℤ, nat_abs}
-use lib.ListN.{length, drop}
-use lib.Signed.{le_z, lt_z}
+use Rattle.std.proofs.Common.{◌≡◌, ℕ, zero, suc, ◌≤◌, Bool, false, cond, ltb, ℤ, List, [], ◌++◌, map, length, drop, refl, sym, ap, ap₂, ◌∙◌, subst, arith, ne_eqb, eq-eqb, le-ltb}
+use Rattle.std.proofs.Math.Path.{subst⁻¹}
+use Rattle.std.proofs.Math.Dec.{eqb-suc-zero}
 use types.Run.{OneOf}
 use Rattle.meaning.specs.Table.{Value, Operation, Accepted, Semantics, any, operation, push, word, stack, of, whole, only, bytes, store_in}
 use Rattle.meaning.specs.Numbers.{signed}
 use Rattle.meaning.specs.Call as M
 use Rattle.meaning.specs.Call.{Record, value_of, sum_of, formula}
 use Rattle.meaning.specs.Stack.{depth, entry, takes, pushes}
-use Rattle.meaning.specs.Checks.{outside, above, below, not_multiple, refuses}
+use Rattle.meaning.specs.Checks.{outside, refuses}
 use Rattle.lemmas.specs.Passed.{refusal_of}
-use Rattle.numbers.specs.Ranges.{between}
-use Rattle.table.specs.declared.Range.{Range}
 use Rattle.table.specs.declared.Sum.{Sum}
-use Rattle.table.specs.Columns.{value_from, sum_from, formula_from, range_from}
+use Rattle.table.specs.Columns.{value_from, sum_from, formula_from}
 use Rattle.table.specs.Keys.{class, same_keys}
 use Rattle.stack.specs.declared.Stack.{Stack}
 use Rattle.stack.specs.declared.Taken.TheVariants.{Value as Took}
@@ -28,9 +19,7 @@ use Rattle.stack.specs.declared.Judged.{Judged}
 use Rattle.stack.specs.declared.Judged.TheVariants.{Passes, Refused}
 use Rattle.stack.specs.Tops.{tops, Fit, Holds, judged_number, Stands, taken_at, Judges, JudgesOperation, operation_stack, operation_refusal}
 use Rattle.stack.specs.Laws.{length-tops, taken-value}
-use Rattle.records.proofs.Laws.{bit-value}
-use Rattle.values.specs.Values.{refusal_at}
-use Rattle.steps.specs.Step.{value_refusal, place_refusal, range_refusal, beyond, Unchanged, Direct, Steps}
+use Rattle.steps.specs.Step.{value_refusal, place_refusal, range_refusal, Unchanged, Direct, Steps}
 use Rattle.steps.specs.Refusal.{then, refusal_word, refusal_bytes, refusal_pop, refusal-push, refusal_operation, direct_refusal, direct_after}
 
 -- ---- one refusal after the other
@@ -57,96 +46,7 @@ gone {m} {n} d e next =
     let none : n ≡ 0 = sym d.says ∙ ap judged_number e in
     is (sym (ap (λ (b : Bool). cond b m n) (eq-eqb n 0 none))) next
 
--- ---- the columns of a range
-
-pub not_not : (b : Bool) → b ≡ not (not b)
-not_not true = refl
-not_not false = refl
-
-le_or_gt : (a b : ℕ) → leb a b ≡ not (ltb b a)
-le_or_gt a b = by (ltb b a) refl
-  where
-    by : (t : Bool) → ltb b a ≡ t → leb a b ≡ not t
-    by true e = lt-leb a b (ltb-true b a e)
-    by false e = le-leb a b (ltb-false b a e)
-
--- inside a range is neither above it nor below it
-inside : (l h z : ℤ) → between l h z ≡ not (lt_z h z || lt_z z l)
-inside l h z = ap₂ ◌&&◌ (le_or_gt_z l z) (le_or_gt_z z h) ∙ both (lt_z z l) (lt_z h z)
-  where
-    le_or_gt_z : (a b : ℤ) → le_z a b ≡ not (lt_z b a)
-    le_or_gt_z (pos a) (pos b) = le_or_gt a b
-    le_or_gt_z (pos a) (negsuc b) = refl
-    le_or_gt_z (negsuc a) (pos b) = refl
-    le_or_gt_z (negsuc a) (negsuc b) = le_or_gt b a
-
-    both : (a b : Bool) → not a && not b ≡ not (b || a)
-    both true true = refl
-    both true false = refl
-    both false true = refl
-    both false false = refl
-
-module _ (range : Range) (z : ℤ) where
-  pub in_unsigned : range.sign ≡ 1 → between (pos 0) (pos (2 ^ range.bits - 1)) z ≡ not (beyond (range_from range) z)
-  in_unsigned e = rw e (inside (pos 0) (pos (2 ^ range.bits - 1)) z)
-
-  pub in_signed : (range.sign ≡ 1 → ⊥) → between (neg_ℤ (pos (2 ^ (range.bits - 1)))) (pos (2 ^ (range.bits - 1) - 1)) z ≡ not (beyond (range_from range) z)
-  in_signed h = go range.sign refl
-    where
-      go : (k : ℕ) → range.sign ≡ k → between (neg_ℤ (pos (2 ^ (range.bits - 1)))) (pos (2 ^ (range.bits - 1) - 1)) z ≡ not (beyond (range_from range) z)
-      go zero e = rw e (inside (neg_ℤ (pos (2 ^ (range.bits - 1)))) (pos (2 ^ (range.bits - 1) - 1)) z)
-      go (suc zero) e = absurd (h e)
-      go (suc (suc k)) e = rw e (inside (neg_ℤ (pos (2 ^ (range.bits - 1)))) (pos (2 ^ (range.bits - 1) - 1)) z)
-
-  pub by_4 : (range.sign ≡ 0 → ⊥) → (range.sign ≡ 1 → ⊥) → not (eqb (nat_abs z % 4) 0) ≡ not_multiple (range_from range) z
-  by_4 g h = go range.sign refl
-    where
-      go : (k : ℕ) → range.sign ≡ k → not (eqb (nat_abs z % 4) 0) ≡ not_multiple (range_from range) z
-      go zero e = absurd (g e)
-      go (suc zero) e = absurd (h e)
-      go (suc (suc k)) e = rw e
-
--- Every range has 0 in it: what lies outside is below it where it is negative, and above it where it is not.
-sides : (least most : ℕ) (z : ℤ) (m : ℕ) → (lt_z (pos most) z || lt_z z (neg_ℤ (pos least))) ≡ true →
-    cond (lt_z (pos most) z) 14 (cond (lt_z z (neg_ℤ (pos least))) 18 m) ≡ cond (lt_z z (pos 0)) 18 14
-sides zero most (pos a) m e = by (ltb most a) e
-  where
-    by : (t : Bool) → (t || ltb a 0) ≡ true → cond t 14 (cond (ltb a 0) 18 m) ≡ cond (ltb a 0) 18 14
-    by true e = rw leb-suc-zero
-    by false e = absurd (false≢true (rw leb-suc-zero at e))
-sides (suc least) most (pos a) m e = by (ltb most a) e
-  where
-    by : (t : Bool) → (t || false) ≡ true → cond t 14 m ≡ cond (ltb a 0) 18 14
-    by true e = rw leb-suc-zero
-    by false e = absurd (false≢true e)
-sides least most (negsuc a) m e = rw e
-
-some_way : (t : Bool) → ◌≡◌ {A = ℕ} (cond t 18 14) 0 → ⊥
-some_way true n = omega arith
-some_way false n = omega arith
-
-module _ (range : Range) (z : ℤ) where
-  pub missed_stops : {k : ℕ} {s : Stack} → beyond (range_from range) z ≡ true → k ≡ cond (lt_z z (pos 0)) 18 14 → Direct (range_refusal (range_from range) z) s (Refused k)
-  missed_stops {k} e f = stops (go range.sign refl ∙ sym f) (λ n. some_way (lt_z z (pos 0)) (sym f ∙ n))
-    where
-      go : (n : ℕ) → range.sign ≡ n → range_refusal (range_from range) z ≡ cond (lt_z z (pos 0)) 18 14
-      go zero g = rw g (sides (2 ^ (range.bits - 1)) (2 ^ (range.bits - 1) - 1) z 0 (rw g at e))
-      go (suc zero) g = rw g (sides 0 (2 ^ range.bits - 1) z 0 (rw g at e))
-      go (suc (suc n)) g = rw g (sides (2 ^ (range.bits - 1)) (2 ^ (range.bits - 1) - 1) z (cond (not (eqb (nat_abs z % 4) 0)) 15 0) (rw g at e))
-
-  -- a value in its range is refused where it is no multiple of 4
-  pub within : beyond (range_from range) z ≡ false → range_refusal (range_from range) z ≡ cond (not_multiple (range_from range) z) 15 0
-  within e = by (above (range_from range) z) (below (range_from range) z) (cond (not_multiple (range_from range) z) 15 0) e
-    where
-      by : (a b : Bool) (n : ℕ) → (a || b) ≡ false → cond a 14 (cond b 18 n) ≡ n
-      by true b n e = absurd (true≢false e)
-      by false true n e = absurd (true≢false e)
-      by false false n e = refl
-
 -- ---- the value that a type uses
-
-pub value-refusal : (c : M.Setting) (r : Record) (k : ℕ) → k < 6 → refusal_at r.row k c.rows r.symbol ≡ value_refusal c r (value_from k)
-value-refusal c r k h = ap (λ (b : ℕ). refusal_at r.row b c.rows r.symbol) (sym (bit-value k h))
 
 pub value_of_lem : (sum : Sum) (less : ℕ) → value_of (sum_of (formula_from sum less)) ≡ value_from sum.value
 value_of_lem sum less = by_less less ∙ by_with sum.with refl
