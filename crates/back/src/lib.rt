@@ -21,6 +21,7 @@ pub enum Immediate {
 }
 
 // Refusal 4: read back serves types 38 to 46 and 64 to 98. No other type has a field to read.
+#[tactic(auto, using(crate::proofs::Laws::word_types))]
 fn no_word(rtype: u64) -> bool
     ensures { result ≡ not (C.of_word (semantics_on card64 rtype) (λ source range. true)) }
 {
@@ -32,6 +33,7 @@ fn no_word(rtype: u64) -> bool
 }
 
 // A field of one part, bare: its low zeros and its sign are not restored.
+#[tactic(auto, using(crate::proofs::Laws::bare_one))]
 fn bare(word: u64, part: Part) -> u64
     requires { Inside part }
     ensures { Bare (part_from part ∷ []) part.many word result }
@@ -48,6 +50,7 @@ fn bare_of_two(word: u64, high: Part, low: Part) -> u64
 }
 
 // A word type's value: signed where the accepted range has negative numbers, and times 4 where the field leaves out two low zeros.
+#[tactic(auto, unfolding(meaning::specs::Table::table, meaning::specs::Table::look, meaning::specs::Field::bare, meaning::specs::Field::wide, meaning::specs::Field::lowest))]
 fn value_in(rtype: u64, word: u64) -> i64
     requires { C.of_word (semantics_on card64 rtype) (λ source range. true) ≡ true }
     ensures { result ≡ value_back (semantics_on card64 rtype) word }
@@ -72,6 +75,7 @@ fn value_in(rtype: u64, word: u64) -> i64
 }
 
 // Any section and any numbers get an answer. The checks go in their order: 1, 4, 8, 9.
+#[tactic(auto, unfolding(meaning::specs::Checks::first))]
 pub fn read_back(section: &[u8], address: u64, offset: u64, rtype: u64) -> Immediate
     ensures { ReadsBack section.now address offset rtype result }
 {

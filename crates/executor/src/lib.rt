@@ -72,6 +72,7 @@ fn lu12i_w(word: u64) -> u64
     extended(32, i20(word) << 12)
 }
 
+#[tactic(auto, using(crate::proofs::Laws::above_low_half))]
 fn lu32i_d(word: u64, registers: &[u64; REGISTERS]) -> u64
     ensures { result ≡ E.result E.lu32i_d 0 word registers.now }
 {
@@ -107,6 +108,7 @@ fn ori(word: u64, registers: &[u64; REGISTERS]) -> u64
 // ---- which of the six a word is
 
 // Those with an immediate of 20 bits, whose opcode is bits 31 to 25.
+#[tactic(auto, unfolding(meaning::specs::Executor::decoded, meaning::specs::Executor::six))]
 fn with_i20(word: u64, pc: u64, registers: &[u64; REGISTERS]) -> Outcome
     requires { word < 2 ^ 32 }
     ensures { result ≡ outcome_of (E.decoded (take 3 E.six) word) pc word registers.now }
@@ -120,6 +122,7 @@ fn with_i20(word: u64, pc: u64, registers: &[u64; REGISTERS]) -> Outcome
 }
 
 // Those with an immediate of 12 bits, whose opcode is bits 31 to 22. They use no PC: it may be any.
+#[tactic(auto, unfolding(meaning::specs::Executor::decoded, meaning::specs::Executor::six))]
 fn with_i12(word: u64, registers: &[u64; REGISTERS]) -> Outcome
     requires { word < 2 ^ 32 }
     ensures { (pc : ℕ) → result ≡ outcome_of (E.decoded (drop 3 E.six) word) pc word registers.now }
@@ -133,6 +136,7 @@ fn with_i12(word: u64, registers: &[u64; REGISTERS]) -> Outcome
 }
 
 // Bit 28 is set in the opcode of the first three, and in none of the others.
+#[tactic(auto, unfolding(meaning::specs::Executor::decoded, meaning::specs::Executor::six))]
 fn result(word: u64, pc: u64, registers: &[u64; REGISTERS]) -> Outcome
     requires { word < 2 ^ 32 }
     ensures { result ≡ outcome_of (E.decoded E.six word) pc word registers.now }
@@ -154,6 +158,7 @@ fn write(registers: &mut [u64; REGISTERS], rd: usize, x: u64)
 }
 
 // Any bytes, any start address and any registers get an answer.
+#[tactic(auto, using(crate::proofs::Laws::run_laws))]
 pub fn run(words: &[u8], start: u64, registers: &mut [u64; REGISTERS]) -> Ran
     ensures { Runs words.now start registers.old result registers.new }
 {
