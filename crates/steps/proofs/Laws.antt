@@ -1,7 +1,10 @@
 -- Judging step by step: one refusal after the other, over plain numbers.
-use Rattle.std.proofs.Common.{◌≡◌, ℕ, zero, suc, ◌≤◌, Bool, false, cond, ltb, ℤ, List, [], ◌++◌, map, length, drop, refl, sym, ap, ap₂, ◌∙◌, subst, arith, ne_eqb, eq-eqb, le-ltb}
+use Rattle.std.proofs.Common.{◌≡◌, ℕ, zero, suc, ◌≤◌, Bool, true, false, ◌||◌, cond, ltb, ℤ, pos, negsuc, neg_ℤ, List, [], ◌++◌, map, length, drop, refl, sym, ap, ap₂, ◌∙◌, subst, arith, ne_eqb, eq-eqb, le-ltb}
 use Rattle.std.proofs.Math.Path.{subst⁻¹}
+use mathlib.Core.Bool.{false≢true}
 use Rattle.std.proofs.Math.Dec.{eqb-suc-zero}
+use lib.Dec.{leb-suc-zero}
+use lib.Signed.{lt_z}
 use types.Run.{OneOf}
 use Rattle.meaning.specs.Table.{Value, Operation, Accepted, Semantics, any, operation, push, word, stack, of, whole, only, bytes, store_in}
 use Rattle.meaning.specs.Numbers.{signed}
@@ -45,6 +48,23 @@ pub gone : {m n : ℕ} {s t after : Stack} {i j : Judged} → Direct n s i → i
 gone {m} {n} d e next =
     let none : n ≡ 0 = sym d.says ∙ ap judged_number e in
     is (sym (ap (λ (b : Bool). cond b m n) (eq-eqb n 0 none))) next
+
+-- ---- which way a value missed its range
+
+-- Every range has 0 in it: what lies outside is below it where it is negative, and above it where it is not.
+pub sides : (least most : ℕ) (z : ℤ) (m : ℕ) → (lt_z (pos most) z || lt_z z (neg_ℤ (pos least))) ≡ true →
+    cond (lt_z (pos most) z) 14 (cond (lt_z z (neg_ℤ (pos least))) 18 m) ≡ cond (lt_z z (pos 0)) 18 14
+sides zero most (pos a) m e = by (ltb most a) e
+  where
+    by : (t : Bool) → (t || ltb a 0) ≡ true → cond t 14 (cond (ltb a 0) 18 m) ≡ cond (ltb a 0) 18 14
+    by true e = rw leb-suc-zero
+    by false e = absurd (false≢true (rw leb-suc-zero at e))
+sides (suc least) most (pos a) m e = by (ltb most a) e
+  where
+    by : (t : Bool) → (t || false) ≡ true → cond t 14 m ≡ cond (ltb a 0) 18 14
+    by true e = rw leb-suc-zero
+    by false e = absurd (false≢true e)
+sides least most (negsuc a) m e = rw e
 
 -- ---- the value that a type uses
 
