@@ -27,6 +27,7 @@ use table::*;
 // ---- the writers, each lent the bytes that it writes and no other
 
 // A word's field of one part, shifted and masked into it.
+#[tactic(auto, unfolding(meaning::specs::Field::put))]
 fn put_one(part: &mut [u8], x: u64, p: Part)
     requires { (length part.old ≡ 4) × InWord p }
     ensures { part.new ≡ bytes_of 4 (F.put (part_from p ∷ []) x (number part.old)) }
@@ -133,6 +134,7 @@ fn store(
 }
 
 // S+A added to n bytes.
+#[tactic(auto, using(lemmas::specs::Modulo::bytes_plus))]
 fn add(section: &mut [u8], rela: &[u8], row: &[u8], setting: Setting, of: Sum, n: usize)
     requires { (n ≤ 8) × Here rela.now row.now of.value × (M.offset_in card64 rela.now + n ≤ length section.old) }
     ensures { section.new ≡ effect (as_setting setting) (seen rela.now row.now)
@@ -145,6 +147,7 @@ fn add(section: &mut [u8], rela: &[u8], row: &[u8], setting: Setting, of: Sum, n
 }
 
 // S+A subtracted from n bytes: what is missing to 2 ^ 64 is added.
+#[tactic(auto, using(crate::proofs::Laws::bytes_less))]
 fn subtract(section: &mut [u8], rela: &[u8], row: &[u8], setting: Setting, of: Sum, n: usize)
     requires { (n ≤ 8) × Here rela.now row.now of.value × (M.offset_in card64 rela.now + n ≤ length section.old) }
     ensures { section.new ≡ effect (as_setting setting) (seen rela.now row.now)
