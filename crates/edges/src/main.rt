@@ -6,8 +6,8 @@
 
 ghost use Rattle.std.specs.Prelude.{◌≡◌, length};
 
-use libc::STDOUT_FILENO;
 use patch::Answer;
+use std::io;
 
 // 2^64-1. The end of four bytes there, were it taken modulo 2^64, would lie inside the section.
 const LAST: u64 = u64::MAX;
@@ -56,57 +56,55 @@ fn store(bytes: &mut [u8], r: Rela)
     bytes_le::put(&mut bytes[16..], 8, numbers::bits(r.addend));
 }
 
-fn print_line(edge: &[u8], number: u32, place: u32, offset: u64, word: u64) {
-    io::write_all(STDOUT_FILENO, edge);
-    io::write_all(STDOUT_FILENO, b": ");
-    io::print_decimal(STDOUT_FILENO, number as u64);
-    io::write_all(STDOUT_FILENO, b" ");
-    io::print_decimal(STDOUT_FILENO, place as u64);
-    io::write_all(STDOUT_FILENO, b" ");
-    io::print_hex(STDOUT_FILENO, offset, 16);
-    io::write_all(STDOUT_FILENO, b" ");
-    io::print_hex(STDOUT_FILENO, word, 8);
-    io::write_all(STDOUT_FILENO, b"\n");
+fn print_line(
+    rt: &impl Print,
+    edge: &str,
+    number: u32,
+    place: u32,
+    offset: u64,
+    word: u64,
+) -> io::Result<()> {
+    println!(rt; "{edge}: {number} {place} {offset:016x} {word:08x}")
 }
 
-fn run(edge: &[u8], records: &[u8]) {
+fn run(rt: &impl Print, edge: &str, records: &[u8]) -> io::Result<()> {
     let mut section = [0u8; 4];
     let answer = patch::patch(&mut section, records, b"", 0, 0);
     let word = bytes_le::get_u32(&section, 0);
     match answer {
-        Answer::Patched(count) => print_line(edge, 0, count, 0, word),
-        Answer::Refused(number, place, offset) => print_line(edge, number, place, offset, word),
+        Answer::Patched(count) => print_line(rt, edge, 0, count, 0, word),
+        Answer::Refused(number, place, offset) => print_line(rt, edge, number, place, offset, word),
     }
 }
 
-fn one(edge: &[u8], a: Rela) {
+fn one(rt: &impl Print, edge: &str, a: Rela) -> io::Result<()> {
     let mut list = [0u8; 24];
     store(&mut list, a);
-    run(edge, &list);
+    run(rt, edge, &list)
 }
 
-fn two(edge: &[u8], a: Rela, b: Rela) {
+fn two(rt: &impl Print, edge: &str, a: Rela, b: Rela) -> io::Result<()> {
     let mut space = [0u8; 48];
     let list: &mut [u8] = &mut space;
     store(&mut list[..24], a);
     store(&mut list[24..], b);
-    run(edge, list);
+    run(rt, edge, list)
 }
 
 // A value that is pushed, and taken by a type.
-fn taken(edge: &[u8], value: i64, rtype: u32) {
-    two(edge, push(value), plain(rtype));
+fn taken(rt: &impl Print, edge: &str, value: i64, rtype: u32) -> io::Result<()> {
+    two(rt, edge, push(value), plain(rtype))
 }
 
 // An operation on two values. Type 38 takes what it leaves, so that the word shows it.
-fn operation(edge: &[u8], opr1: i64, opr2: i64, rtype: u32) {
+fn operation(rt: &impl Print, edge: &str, opr1: i64, opr2: i64, rtype: u32) -> io::Result<()> {
     let mut space = [0u8; 96];
     let list: &mut [u8] = &mut space;
     store(&mut list[..24], push(opr1));
     store(&mut list[24..48], push(opr2));
     store(&mut list[48..72], plain(rtype));
     store(&mut list[72..], plain(38));
-    run(edge, list);
+    run(rt, edge, list)
 }
 
 // Seventeen pushes: one more than the stack has room for.
@@ -121,86 +119,97 @@ fn fill_with_pushes(list: &mut [u8])
 }
 
 // Both ends of what a field accepts.
-fn ranges() {
-    one(b"type 64 with 131073", with(64, 131073));
-    one(b"type 64 with -131072", with(64, -131072));
-    taken(b"type 38 with 15", 15, 38);
-    taken(b"type 38 with -16", -16, 38);
-    taken(b"type 39 with 4095", 4095, 39);
-    taken(b"type 39 with -1", -1, 39);
+fn ranges(rt: &impl Print) -> io::Result<()> {
+    one(rt, "type 64 with 131073", with(64, 131073))?;
+    one(rt, "type 64 with -131072", with(64, -131072))?;
+    taken(rt, "type 38 with 15", 15, 38)?;
+    taken(rt, "type 38 with -16", -16, 38)?;
+    taken(rt, "type 39 with 4095", 4095, 39)?;
+    taken(rt, "type 39 with -1", -1, 39)
 }
 
 // The largest shift count, and which of two entries is taken from which.
-fn operations() {
-    operation(b"pushes -5, 63 then type 34", -5, 63, 34);
-    operation(b"pushes 10, 3 then type 32", 10, 3, 32);
+fn operations(rt: &impl Print) -> io::Result<()> {
+    operation(rt, "pushes -5, 63 then type 34", -5, 63, 34)?;
+    operation(rt, "pushes 10, 3 then type 32", 10, 3, 32)
 }
 
 // The bits that each of the four takes out of one number.
-fn parts() {
-    one(b"type 67 with 123456789abcdef0h", with(67, PARTS));
-    one(b"type 68 with 123456789abcdef0h", with(68, PARTS));
-    one(b"type 69 with 123456789abcdef0h", with(69, PARTS));
-    one(b"type 70 with 123456789abcdef0h", with(70, PARTS));
+fn parts(rt: &impl Print) -> io::Result<()> {
+    one(rt, "type 67 with 123456789abcdef0h", with(67, PARTS))?;
+    one(rt, "type 68 with 123456789abcdef0h", with(68, PARTS))?;
+    one(rt, "type 69 with 123456789abcdef0h", with(69, PARTS))?;
+    one(rt, "type 70 with 123456789abcdef0h", with(70, PARTS))
 }
 
 // Targets just below 2^64: from 800h below it on, the target after adding 800h wraps, and its upper part is that of address 0.
-fn upper_parts() {
-    one(b"type 71 with 2^64-801h", with(71, -0x801));
-    one(b"type 71 with 2^64-800h", with(71, -0x800));
-    one(b"type 71 with 2^64-1", with(71, -1));
+fn upper_parts(rt: &impl Print) -> io::Result<()> {
+    one(rt, "type 71 with 2^64-801h", with(71, -0x801))?;
+    one(rt, "type 71 with 2^64-800h", with(71, -0x800))?;
+    one(rt, "type 71 with 2^64-1", with(71, -1))
 }
 
 // Sixteen pushes are not the document's: all find room, and only their being left is refused.
-fn lengths(pushes: &[u8])
+fn lengths(rt: &impl Print, pushes: &[u8]) -> io::Result<()>
     requires { length pushes.now ≡ 408 }
 {
-    run(b"seventeen pushes", pushes);
-    run(b"sixteen pushes", &pushes[0..384]);
-    run(b"one push alone", &pushes[0..24]);
-    run(b"23 record bytes", &pushes[0..23]);
+    run(rt, "seventeen pushes", pushes)?;
+    run(rt, "sixteen pushes", &pushes[0..384])?;
+    run(rt, "one push alone", &pushes[0..24])?;
+    run(rt, "23 record bytes", &pushes[0..23])
 }
 
 // The document's rules have these, and its list of edges does not: a negative count, an empty stack, also after a record that could have been
 // stored.
-fn more_of_the_stack() {
-    operation(b"pushes 1, -1 then type 33", 1, -1, 33);
-    operation(b"pushes 1, -1 then type 34", 1, -1, 34);
-    one(b"type 24 on an empty stack", plain(24));
-    two(b"type 67, then type 24", with(67, PARTS), plain(24));
+fn more_of_the_stack(rt: &impl Print) -> io::Result<()> {
+    operation(rt, "pushes 1, -1 then type 33", 1, -1, 33)?;
+    operation(rt, "pushes 1, -1 then type 34", 1, -1, 34)?;
+    one(rt, "type 24 on an empty stack", plain(24))?;
+    two(rt, "type 67, then type 24", with(67, PARTS), plain(24))
 }
 
 // Symbols past the rows, of which there are none: refused only where a value is used.
-fn more_of_symbols() {
-    one(b"type 23 with symbol 1", record_at(0, 23, 1, 15));
-    two(b"type 38 with symbol 1", push(15), record_at(0, 38, 1, 0));
+fn more_of_symbols(rt: &impl Print) -> io::Result<()> {
+    one(rt, "type 23 with symbol 1", record_at(0, 23, 1, 15))?;
+    two(
+        rt,
+        "type 38 with symbol 1",
+        push(15),
+        record_at(0, 38, 1, 0),
+    )
 }
 
 // Offsets: refused only where something is written.
-fn more_of_offsets() {
-    one(b"type 47 at 3", record_at(3, 47, 0, 15));
-    one(b"type 47 at 4", record_at(4, 47, 0, 15));
-    one(b"type 1 at 2^64-1", record_at(LAST, 1, 0, 15));
-    two(b"type 23 at 2^64-1", record_at(LAST, 23, 0, 15), plain(38));
+fn more_of_offsets(rt: &impl Print) -> io::Result<()> {
+    one(rt, "type 47 at 3", record_at(3, 47, 0, 15))?;
+    one(rt, "type 47 at 4", record_at(4, 47, 0, 15))?;
+    one(rt, "type 1 at 2^64-1", record_at(LAST, 1, 0, 15))?;
     two(
-        b"type 23 at 2^64-1, then type 30 at 7",
+        rt,
+        "type 23 at 2^64-1",
+        record_at(LAST, 23, 0, 15),
+        plain(38),
+    )?;
+    two(
+        rt,
+        "type 23 at 2^64-1, then type 30 at 7",
         record_at(LAST, 23, 0, 0),
         record_at(7, 30, 0, 0),
-    );
-    one(b"type 23 at 2^64-1 alone", record_at(LAST, 23, 0, 15));
-    one(b"type 0 at 2^64-1", record_at(LAST, 0, 0, 15));
+    )?;
+    one(rt, "type 23 at 2^64-1 alone", record_at(LAST, 23, 0, 15))?;
+    one(rt, "type 0 at 2^64-1", record_at(LAST, 0, 0, 15))
 }
 
-fn main() {
+fn main(rt: HostRuntime) -> io::Result<()> {
     let mut space = [0u8; 408];
     let pushes: &mut [u8] = &mut space;
     fill_with_pushes(pushes);
-    ranges();
-    operations();
-    parts();
-    upper_parts();
-    lengths(pushes);
-    more_of_the_stack();
-    more_of_symbols();
-    more_of_offsets();
+    ranges(&rt)?;
+    operations(&rt)?;
+    parts(&rt)?;
+    upper_parts(&rt)?;
+    lengths(&rt, pushes)?;
+    more_of_the_stack(&rt)?;
+    more_of_symbols(&rt)?;
+    more_of_offsets(&rt)
 }

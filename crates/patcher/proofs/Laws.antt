@@ -1,48 +1,25 @@
 -- The output for what was read, over plain numbers and lists.
-use Prim.Native.Nat.{ℕ, ◌+◌, ◌≤◌}
-use mathlib.Core.List.{List, ◌++◌}
-use mathlib.Core.Path.{◌≡◌, sym, ap, ◌∙◌, subst}
+use Rattle.std.proofs.Common.{◌≡◌, ℕ, ◌+◌, ◌≤◌, List, ◌++◌, length, take, drop, sym, ap, ◌∙◌, subst, arith}
+use Rattle.std.proofs.lemmas.List.{length-take-le, take-append-le, take_at}
+use Rattle.std.proofs.Math.Seq.{take-append-add}
+use Rattle.std.specs.Prelude.{Option, Some, None}
+use Rattle.std.specs.Io.KnownBytes.{Appends}
 use borrow.Author.Tests.{ne_eqb}
-use native.Mathlib.Omega.{arith}
-use lib.ListN.{length, take, drop, length-append}
-use lib.Seq.{length-take-le}
-use Rattle.meaning.specs.Checks.{Answer, answer, answer_at}
+use borrow.Rule.Slice.PartMut.{put_mid, post_of}
+use Rattle.meaning.specs.Checks.{answer}
 use Rattle.meaning.specs.Frames.{written, reading_of, output_for, output_of}
 use Rattle.frames.specs.declared.Gathered.{Gathered}
-use Rattle.frames.specs.Gathered.{reading_in, Filled}
+use Rattle.frames.specs.Gathered.{reading_in}
 use Rattle.output.specs.Text.{input_bytes}
 use Rattle.output.proofs.Beyond.{beyond_no_matter}
-use Rattle.patcher.specs.declared.Input.{Input}
 use Rattle.patcher.specs.declared.Input.TheVariants.{Bytes}
-use Rattle.patcher.specs.Read.{Within}
-use Rattle.patcher.specs.Output.{Output, output_patched}
-
--- what was written for a number, a place, an offset and a section is the output of the answer that they make
-pub wrote : (n p o r : ℕ) (a : Answer) (s t came is : List ℕ) → n ≡ a.number → p ≡ a.place → o ≡ a.offset → s ≡ t →
-    is ≡ written (answer_at n p o) s ++ drop r came → r ≡ length (written (answer_at n p o) s) → Output r (written a t) came is
-wrote n p o r a s t came is en ep eo es b k = rw (← en, ← ep, ← eo, ← es) (record { bytes = b; count = k })
+use Rattle.patcher.specs.Read.{Takes}
+use Rattle.patcher.specs.Output.{Output, output_patched, Answered}
 
 -- of a refusal the section is not written
 any_section : (n p : ℕ) (s t : List ℕ) → (n ≡ 0 → ⊥) → written (answer n p) s ≡ written (answer n p) t
 unfolding written
 any_section n p s t h = simp (ne_eqb n 0 h)
-
--- the used part of a buffer is as long as it says
-pub used : {limit n : ℕ} {came is : List ℕ} → Filled limit n came is → length (take n is) ≡ n
-used {limit} {n} {came} {is} f = let w = f.whole in let i = f.within in length-take-le n is (omega arith)
-
--- what was read lies within the buffer, and so does the output
-pub read_within : (r : Input) (n most : ℕ) → r ≡ Bytes n → Within r most → n ≤ most
-read_within r n most e h = subst (λ (x : Input). Within x most) e h
-
-pub output_within : (r : ℕ) (w came is : List ℕ) → Output r w came is → length is ≡ length came → r ≤ length is
-output_within r w came is o e =
-    let n : length is ≡ length w + length (drop r came) = ap length o.bytes ∙ length-append w (drop r came) in
-    let k = o.count in
-    omega arith
-
-pub first_bytes : (n : ℕ) (s : List ℕ) → n ≤ length s → n ≡ length (take n s)
-first_bytes n s h = sym (length-take-le n s h)
 
 module _ (g : Gathered) (s v q input : List ℕ) (e : reading_in g s v q ≡ reading_of input) (r : ℕ) (came is : List ℕ) where
   pub refused_output : (g.number ≡ 0 → ⊥) → (w : List ℕ) → is ≡ written (answer g.number g.place) w ++ drop r came →
@@ -56,6 +33,23 @@ module _ (g : Gathered) (s v q input : List ℕ) (e : reading_in g s v q ≡ rea
   patched_output h o = rw (← e, h) o
 
 -- the output for the first bytes is that for the whole
-pub whole_input : (input : List ℕ) (r : ℕ) (came is : List ℕ) → Output r (output_of input) came is →
-    Output r (output_of input) came is × ((whole : List ℕ) → take input_bytes whole ≡ input → Output r (output_of whole) came is)
-whole_input input r came is o = (o, λ whole e. subst (λ (w : List ℕ). Output r w came is) (ap output_of (sym e) ∙ beyond_no_matter whole input_bytes (omega arith)) o)
+pub whole_output : (input : List ℕ) (r : ℕ) (came is : List ℕ) → Output r (output_of input) came is →
+    (whole : List ℕ) → take input_bytes whole ≡ input → Output r (output_of whole) came is
+whole_output input r came is o whole e = subst (λ (w : List ℕ). Output r w came is) (ap output_of (sym e) ∙ beyond_no_matter whole input_bytes (omega arith)) o
+
+-- a read into the end of a buffer leaves what stood before it, and so many bytes more
+pub read_more : (n m k : ℕ) (buffer read : List ℕ) → n ≤ length buffer → m ≤ length read →
+    take (n + m) (put_mid n k buffer read) ≡ take n buffer ++ take m read
+read_more n m k buffer read within fits =
+    let e : length (take n buffer) ≡ n = length-take-le n buffer within in
+    subst (λ (j : ℕ). take (j + m) (put_mid n k buffer read) ≡ take n buffer ++ take m read) e
+    (take-append-add (take n buffer) (read ++ post_of n k buffer) m ∙ ap (λ (l : List ℕ). take n buffer ++ l) (take-append-le m read (post_of n k buffer) fits))
+
+-- where the output for what was read is written, that for all that was left to read is
+pub answered : (known before after : Option (List ℕ)) (n r : ℕ) (buffer came is : List ℕ) → length buffer ≡ input_bytes → Takes (Bytes n) known buffer →
+    ((whole : List ℕ) → take input_bytes whole ≡ take n buffer → Output r (output_of whole) came is) → Appends before after (take r is) →
+    Answered known before after
+answered None before after n r buffer came is e taken output written = tt
+answered (Some left) before after n r buffer came is e taken output written =
+    let o = output left (sym (taken ∙ ap (λ (k : ℕ). take k left) e)) in
+    subst (Appends before after) (ap (take r) o.bytes ∙ take_at (output_of left) (drop r came) r (sym o.count)) written

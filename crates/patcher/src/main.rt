@@ -2,17 +2,17 @@
 
 #![tactic(auto)]
 
-ghost use Rattle.std.specs.Prelude.{List, ◌≡◌, ℕ, ◌≤◌, length, take};
+ghost use Rattle.std.specs.Prelude.{List, ◌≡◌, ℕ, ◌≤◌, IsTrue, length, take};
 ghost use Rattle.meaning.specs.Call.{card64};
 ghost use Rattle.meaning.specs.Checks.{section_limit, values_limit};
 ghost use Rattle.meaning.specs.Frames.{output_of};
 ghost use Rattle.output.specs.Text.{output_bytes, input_bytes};
 ghost use Rattle.patch.specs.Answers.{answer_in};
-ghost use Rattle.patcher.specs.Read.{Within};
-ghost use Rattle.patcher.specs.Output.{Output, output_patched};
+ghost use Rattle.patcher.specs.Read.{Within, Takes};
+ghost use Rattle.patcher.specs.Output.{Output, output_patched, Answered};
 
-use libc::{STDERR_FILENO, STDIN_FILENO, STDOUT_FILENO};
 use patch::Answer;
+use std::io::{Read, Write};
 
 // The first bytes of the input, which decide the answer: those of the longest good input, and so much of a line after them that it cannot be
 // a frame (`beyond_no_matter` of the crate output). What comes after them is not read.
@@ -25,17 +25,16 @@ enum Input {
     Failed,
 }
 
-fn fill(buffer: &mut [u8]) -> Input
-    ensures { Within result (length buffer.old) }
+fn fill<R: Read>(reader: &mut R, buffer: &mut [u8]) -> Input
+    ensures within { Within result (length buffer.old) }
+    ensures bytes { Takes result (R.remaining reader.old) buffer.new }
 {
     let mut n = 0;
     while n < buffer.len() {
         let rest = &mut buffer[n..];
-        let got = libc::read(STDIN_FILENO, rest);
-        if got < 0 {
+        let Ok(more) = reader.read(rest) else {
             return Input::Failed;
-        }
-        let more = io::count(got, rest);
+        };
         if more == 0 {
             return Input::Bytes(n);
         }
@@ -129,34 +128,48 @@ fn answer(
 }
 
 // Reads, answers and writes. A read that fails is no end of the input: there is then no answer, and standard error says so.
-fn run(input: &mut [u8], section: &mut [u8], values: &mut [u8], records: &mut [u8], out: &mut [u8])
+fn run<R: Read, W: Write, E: Write>(
+    reader: &mut R,
+    writer: &mut W,
+    errors: &mut E,
+    input: &mut [u8],
+    section: &mut [u8],
+    values: &mut [u8],
+    records: &mut [u8],
+    out: &mut [u8],
+) -> bool
     requires input_len { length input.old ≡ input_bytes }
     requires section_len { length section.old ≡ section_limit }
     requires values_len { length values.old ≡ values_limit }
     requires records_len { length records.old ≡ card64.records_limit }
     requires out_len { length out.old ≡ output_bytes }
+    ensures { IsTrue result → Answered (R.remaining reader.old) (W.contents writer.old) (W.contents writer.new) }
 {
-    let filled = fill(input);
+    let filled = fill(reader, input);
     let Input::Bytes(n) = filled else {
-        io::write_all(STDERR_FILENO, b"patcher: standard input cannot be read\n");
-        return;
+        let _ = errors.write_all(b"patcher: standard input cannot be read\n");
+        return false;
     };
     let r = answer(&input[..n], section, values, records, out);
-    if !io::write_all(STDOUT_FILENO, &out[..r]) {
-        io::write_all(
-            STDERR_FILENO,
-            b"patcher: standard output cannot be written\n",
-        );
+    match writer.write_all(&out[..r]) {
+        Ok(()) => true,
+        Err(_) => {
+            let _ = errors.write_all(b"patcher: standard output cannot be written\n");
+            false
+        }
     }
 }
 
-fn main() {
+fn main(rt: HostRuntime) {
     let mut input = [0u8; INPUT];
     let mut section = [0u8; sizes::SECTION_LIMIT];
     let mut values = [0u8; sizes::VALUES_LIMIT];
     let mut records = [0u8; sizes::RECORDS_LIMIT];
     let mut out = [0u8; output::OUTPUT];
     run(
+        &mut rt.stdin(),
+        &mut rt.stdout(),
+        &mut rt.stderr(),
         &mut input,
         &mut section,
         &mut values,
