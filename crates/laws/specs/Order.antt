@@ -215,12 +215,12 @@ module _ (c : Call) where
 -- ---- an example: what the theorem asks can be had, not by every order, and an order without it may leave something else
 
 -- the bytes of a record of symbol 0, whose S is 0
-unfoldable pub record_bytes_lem : ℕ → ℕ → ℕ → List ℕ
-record_bytes_lem offset type addend = bytes_of 8 offset ++ (bytes_of 8 type ++ bytes_of 8 addend)
+unfoldable pub bytes_of_record : ℕ → ℕ → ℕ → List ℕ
+bytes_of_record offset type addend = bytes_of 8 offset ++ (bytes_of 8 type ++ bytes_of 8 addend)
 
 -- 9 pushed (23) and put into the word at 0 (38), 5 stored in the four bytes at 4 (1), 4 added to the byte at 1 (47)
 pub three : List (List ℕ)
-three = (record_bytes_lem 0 23 9 ++ record_bytes_lem 0 38 0) ∷ record_bytes_lem 4 1 5 ∷ record_bytes_lem 1 47 4 ∷ []
+three = (bytes_of_record 0 23 9 ++ bytes_of_record 0 38 0) ∷ bytes_of_record 4 1 5 ∷ bytes_of_record 1 47 4 ∷ []
 
 -- eight bytes of 0 at address 0
 pub zeros : List ℕ
@@ -242,7 +242,7 @@ pub example-holds :
     T (each_once (length three) bad) × (keeps_order at_zero three bad ≡ false) ×
     (section_of at_zero (joined three) zeros ≡ 0 ∷ 0x28 ∷ 0 ∷ 0 ∷ 5 ∷ 0 ∷ 0 ∷ 0 ∷ []) ×
     (section_of at_zero (joined (rearranged three bad)) zeros ≡ 0 ∷ 0x24 ∷ 0 ∷ 0 ∷ 5 ∷ 0 ∷ 0 ∷ 0 ∷ [])
-unfolding record_bytes_lem three zeros at_zero good bad number bytes_of cut table look put first of_records of_masks checks patched run joined common_with common_byte named apart may_lead keeps_order rearranged
+unfolding bytes_of_record three zeros at_zero good bad number bytes_of cut table look put first of_records of_masks checks patched run joined common_with common_byte named apart may_lead keeps_order rearranged
 example-holds =
     let groups : Groups at_zero three =
     (record { whole = refl; balanced = refl }, (record { whole = refl; balanced = refl }, (record { whole = refl; balanced = refl }, tt))) in

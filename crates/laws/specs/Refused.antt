@@ -226,15 +226,15 @@ record_in_bytes c records before rest r e =
     )
 
 -- The refusals of a record: 4 to 15, and 18.
-abbrev pub ofARecord : ℕ → Bool
-ofARecord n = leb 4 n && leb n 15 || eqb n 18
+abbrev pub of_a_record : ℕ → Bool
+of_a_record n = leb 4 n && leb n 15 || eqb n 18
 
 -- They give the offset in the bytes of the record that the place names, and every other answer gives 0.
 pub record Offset (c : Call) (records : List ℕ) (a : Answer) : Type 0 where
-  pub of_record_lem : T (ofARecord a.number) →
+  pub of_some : T (of_a_record a.number) →
       (a.place < length records / c.setting.card.record_bytes) ×
       (a.offset ≡ offset_in c.setting.card (piece c.setting.card.record_bytes records a.place))
-  pub of_none : T (not (ofARecord a.number)) → a.offset ≡ 0
+  pub of_none : T (not (of_a_record a.number)) → a.offset ≡ 0
 
 first_has : (P : Answer → Type 0) (ks : List Check) (a : Answer) → Every (λ k. P k.refusal) ks → P a → P (first ks a)
 unfolding first
@@ -261,8 +261,8 @@ module _ (c : Call) (records : List ℕ) where
   abbrev Told : Check → Type 0
   Told k = Offset c records k.refusal
 
-  none_told : (n p : ℕ) → T (not (ofARecord n)) → Offset c records (answer n p)
-  none_told n p t = record { of_record_lem = λ u. absurd (T_not (ofARecord n) t u); of_none = λ u. refl }
+  none_told : (n p : ℕ) → T (not (of_a_record n)) → Offset c records (answer n p)
+  none_told n p t = record { of_some = λ u. absurd (T_not (of_a_record n) t u); of_none = λ u. refl }
 
   masks_told : (i : ℕ) (rows : List (List ℕ)) → Every Told (of_masks i rows)
   unfolding of_masks
@@ -275,14 +275,14 @@ module _ (c : Call) (records : List ℕ) where
   records_told i st before (r ∷ rs) n e =
       let s : Setting = c.setting in
       let (below, is) = record_in_bytes c records before rs r e in
-      let own : (m : ℕ) → T (ofARecord m) → Offset c records (answer_at m i r.offset) =
+      let own : (m : ℕ) → T (of_a_record m) → Offset c records (answer_at m i r.offset) =
       λ m t.
       record {
-        of_record_lem = λ u. subst (λ (k : ℕ). (k < length records / s.card.record_bytes) × (r.offset ≡ offset_in s.card (piece s.card.record_bytes records k))) n (below, ap (λ (q : Record). q.offset) is);
-        of_none = λ u. absurd (T_not (ofARecord m) u t);
+        of_some = λ u. subst (λ (k : ℕ). (k < length records / s.card.record_bytes) × (r.offset ≡ offset_in s.card (piece s.card.record_bytes records k))) n (below, ap (λ (q : Record). q.offset) is);
+        of_none = λ u. absurd (T_not (of_a_record m) u t);
       } in
       every_append Told (of_record s i r (does s r) st) (of_records s (suc i) (after s r (does s r) st) rs)
-      (placed_have (Offset c records) ofARecord i r.offset own (of_record s 0 r (does s r) st) tt)
+      (placed_have (Offset c records) of_a_record i r.offset own (of_record s 0 r (does s r) st) tt)
       (records_told (suc i) (after s r (does s r) st) (before ++ r ∷ []) rs (length-append before (r ∷ []) ∙ add-one (length before) ∙ ap suc n) (e ∙ sym (append_assoc before (r ∷ []) rs)))
 
   -- The answer of a call.

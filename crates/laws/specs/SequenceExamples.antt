@@ -8,22 +8,22 @@ use Rattle.meaning.specs.Field.{put}
 use Rattle.meaning.specs.Checks.{Answer, answer, first, of_records, of_masks, checks}
 use Rattle.meaning.specs.Patch.{call, answer_of, patched, section_of}
 use Rattle.meaning.specs.Executor.{lu12i_w, lu32i_d, pcalau12i, lu52i_d, addi_d, ori, six, decoded, first_zero, written, ran, ran_from, run_of}
-use Rattle.laws.specs.Order.{record_bytes_lem}
+use Rattle.laws.specs.Order.{bytes_of_record}
 use Rattle.laws.specs.ReadBack.{WordUntouched}
 use Rattle.laws.specs.Extended.{MultipleAway}
-use Rattle.laws.specs.Examples.{record_at_lem, pair, at_12340004, two, pair-patched, after-upper, none_after}
+use Rattle.laws.specs.Examples.{the_record, pair, at_12340004, two, pair-patched, after-upper, none_after}
 use Rattle.laws.specs.Words.{Holds}
 use Rattle.laws.specs.Sequence.{Patched, four_load, pair_points}
 
 -- A record of symbol 0 in its list, with those before it and after it.
-the : (c : Call) (records : List ℕ) (before later : List Record) (offset type addend : ℕ) → records_of c records ≡ before ++ record_at_lem offset type addend ∷ later →
+the : (c : Call) (records : List ℕ) (before later : List Record) (offset type addend : ℕ) → records_of c records ≡ before ++ the_record offset type addend ∷ later →
     WordUntouched c.setting later offset → Patched c records 0 addend type offset
-unfolding record_at_lem
+unfolding the_record
 the c records before later offset type addend e last =
     record {
       before = before;
       later = later;
-      r = record_at_lem offset type addend;
+      r = the_record offset type addend;
       in_list = e;
       of_type = refl;
       at_place = refl;
@@ -47,13 +47,13 @@ load_call = call load [] 0x12340004 0
 
 pub load_records : List ℕ
 load_records =
-    record_bytes_lem 0 67 asked ++
-    (record_bytes_lem 4 68 asked ++ (record_bytes_lem 8 69 asked ++ record_bytes_lem 12 70 asked))
+    bytes_of_record 0 67 asked ++
+    (bytes_of_record 4 68 asked ++ (bytes_of_record 8 69 asked ++ bytes_of_record 12 70 asked))
 
 -- lu12i.w $a0, 87654h; ori $a0, $a0, fedh; lu32i.d $a0, cba98h; lu52i.d $a0, $a0, 123h
 pub load_patched : (answer_of load_call load_records ≡ answer 0 4) ×
     (section_of load_call load_records load ≡ bytes_of 4 0x150eca84 ++ (bytes_of 4 0x03bfb484 ++ (bytes_of 4 0x17975304 ++ bytes_of 4 0x03048c84)))
-unfolding load load_call load_records record_bytes_lem number bytes_of cut table look put first of_records of_masks checks patched
+unfolding load load_call load_records bytes_of_record number bytes_of cut table look put first of_records of_masks checks patched
 load_patched = (refl, refl)
 
 pub load_words : Holds 4 (lu12i_w ∷ ori ∷ lu32i_d ∷ lu52i_d ∷ []) (section_of load_call load_records load)
@@ -62,27 +62,27 @@ load_words = rw load_patched.1 record { only = refl; words = ((refl, refl), ((re
 
 -- The records after each of them write no byte of its word.
 pub at_0 : Patched load_call load_records 0 asked 67 0
-unfolding load_call load_records record_bytes_lem number bytes_of cut record_at_lem
+unfolding load_call load_records bytes_of_record number bytes_of cut the_record
 at_0 =
-    the load_call load_records [] (record_at_lem 4 68 asked ∷ record_at_lem 8 69 asked ∷ record_at_lem 12 70 asked ∷ []) 0 67
+    the load_call load_records [] (the_record 4 68 asked ∷ the_record 8 69 asked ∷ the_record 12 70 asked ∷ []) 0 67
     asked refl (λ i a b. (inl (omega arith), (inl (omega arith), (inl (omega arith), tt))))
 
 pub at_4 : Patched load_call load_records 0 asked 68 4
-unfolding load_call load_records record_bytes_lem number bytes_of cut record_at_lem
+unfolding load_call load_records bytes_of_record number bytes_of cut the_record
 at_4 =
-    the load_call load_records (record_at_lem 0 67 asked ∷ []) (record_at_lem 8 69 asked ∷ record_at_lem 12 70 asked ∷ []) 4 68
+    the load_call load_records (the_record 0 67 asked ∷ []) (the_record 8 69 asked ∷ the_record 12 70 asked ∷ []) 4 68
     asked refl (λ i a b. (inl (omega arith), (inl (omega arith), tt)))
 
 pub at_8 : Patched load_call load_records 0 asked 69 8
-unfolding load_call load_records record_bytes_lem number bytes_of cut record_at_lem
+unfolding load_call load_records bytes_of_record number bytes_of cut the_record
 at_8 =
-    the load_call load_records (record_at_lem 0 67 asked ∷ record_at_lem 4 68 asked ∷ []) (record_at_lem 12 70 asked ∷ []) 8 69
+    the load_call load_records (the_record 0 67 asked ∷ the_record 4 68 asked ∷ []) (the_record 12 70 asked ∷ []) 8 69
     asked refl (λ i a b. (inl (omega arith), tt))
 
 pub at_12 : Patched load_call load_records 0 asked 70 12
-unfolding load_call load_records record_bytes_lem number bytes_of cut record_at_lem
+unfolding load_call load_records bytes_of_record number bytes_of cut the_record
 at_12 =
-    the load_call load_records (record_at_lem 0 67 asked ∷ record_at_lem 4 68 asked ∷ record_at_lem 8 69 asked ∷ []) [] 12 70
+    the load_call load_records (the_record 0 67 asked ∷ the_record 4 68 asked ∷ the_record 8 69 asked ∷ []) [] 12 70
     asked refl (λ i a b. tt)
 
 -- So $a0, register 4, is loaded with the target, whatever the registers held.
@@ -101,17 +101,17 @@ unfolding six decoded number bytes_of
 pair-words = rw pair-patched.1 record { only = refl; words = ((refl, refl), ((refl, (refl, refl)), tt)) }
 
 pub near_upper : Patched at_12340004 two 0 0x12345800 71 0
-unfolding at_12340004 two after-upper record_bytes_lem number bytes_of cut record_at_lem
+unfolding at_12340004 two after-upper bytes_of_record number bytes_of cut the_record
 near_upper = the at_12340004 two [] after-upper 0 71 0x12345800 refl none_after
 
 pub near_low : Patched at_12340004 two 0 0x12345800 72 4
-unfolding at_12340004 two record_bytes_lem number bytes_of cut record_at_lem
-near_low = the at_12340004 two (record_at_lem 0 71 0x12345800 ∷ []) [] 4 72 0x12345800 refl (λ i a b. tt)
+unfolding at_12340004 two bytes_of_record number bytes_of cut the_record
+near_low = the at_12340004 two (the_record 0 71 0x12345800 ∷ []) [] 4 72 0x12345800 refl (λ i a b. tt)
 
 -- The distance is 6000h, and so $a0 holds 12345800h.
 pub near_example : (registers : List ℕ) → length registers ≡ 32 →
     run_of (section_of at_12340004 two pair) 0x12340004 registers ≡ ran 0 2 (written (first_zero registers) 4 0x12345800)
-unfolding at_12340004 near_upper the record_at_lem number bytes_of
+unfolding at_12340004 near_upper the the_record number bytes_of
 near_example registers all =
     let points = pair_points pair [] two 0x12340004 0 0 0x12345800 (ap (λ (a : Answer). a.number) pair-patched.0) near_upper near_low 4 registers (λ e. omega arith) all pair-words in
     points.run ∙ ap (λ (x : ℕ). ran 0 2 (written (first_zero registers) 4 x)) (points.exactly.1 (record { not_above = refl; not_below = refl }))
@@ -120,10 +120,10 @@ near_example registers all =
 
 -- the same words, with the target 212345800h
 pub far : List ℕ
-far = record_bytes_lem 0 71 0x212345800 ++ record_bytes_lem 4 72 0x212345800
+far = bytes_of_record 0 71 0x212345800 ++ bytes_of_record 4 72 0x212345800
 
 pub far_patched : (answer_of at_12340004 far ≡ answer 0 2) × (section_of at_12340004 far pair ≡ bytes_of 4 0x1a0000c4 ++ bytes_of 4 0x02e00084)
-unfolding pair at_12340004 far record_bytes_lem number bytes_of cut table look put first of_records of_masks checks patched
+unfolding pair at_12340004 far bytes_of_record number bytes_of cut table look put first of_records of_masks checks patched
 far_patched = (refl, refl)
 
 pub far_words : Holds 4 (pcalau12i ∷ addi_d ∷ []) (section_of at_12340004 far pair)
@@ -131,17 +131,17 @@ unfolding six decoded number bytes_of
 far_words = rw far_patched.1 record { only = refl; words = ((refl, refl), ((refl, (refl, refl)), tt)) }
 
 pub far_upper : Patched at_12340004 far 0 0x212345800 71 0
-unfolding at_12340004 far record_bytes_lem number bytes_of cut record_at_lem
-far_upper = the at_12340004 far [] (record_at_lem 4 72 0x212345800 ∷ []) 0 71 0x212345800 refl (λ i a b. (inl (omega arith), tt))
+unfolding at_12340004 far bytes_of_record number bytes_of cut the_record
+far_upper = the at_12340004 far [] (the_record 4 72 0x212345800 ∷ []) 0 71 0x212345800 refl (λ i a b. (inl (omega arith), tt))
 
 pub far_low : Patched at_12340004 far 0 0x212345800 72 4
-unfolding at_12340004 far record_bytes_lem number bytes_of cut record_at_lem
-far_low = the at_12340004 far (record_at_lem 0 71 0x212345800 ∷ []) [] 4 72 0x212345800 refl (λ i a b. tt)
+unfolding at_12340004 far bytes_of_record number bytes_of cut the_record
+far_low = the at_12340004 far (the_record 0 71 0x212345800 ∷ []) [] 4 72 0x212345800 refl (λ i a b. tt)
 
 -- The distance, 200006000h, is above 2 ^ 31 - 1: so $a0 holds an address that is a multiple of 2 ^ 32 away, and not 0 of them.
 pub far_example : (registers : List ℕ) → length registers ≡ 32 →
     (address : ℕ) × ((run_of (section_of at_12340004 far pair) 0x12340004 registers ≡ ran 0 2 (written (first_zero registers) 4 address)) × MultipleAway address 0x212345800)
-unfolding at_12340004 far_upper the record_at_lem number bytes_of
+unfolding at_12340004 far_upper the the_record number bytes_of
 far_example registers all =
     let points = pair_points pair [] far 0x12340004 0 0 0x212345800 (ap (λ (a : Answer). a.number) far_patched.0) far_upper far_low 4 registers (λ e. omega arith) all far_words in
     (points.address, (points.run, points.otherwise (λ fits. true≢false fits.not_above)))

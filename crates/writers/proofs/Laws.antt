@@ -17,7 +17,7 @@ use Rattle.records.specs.declared.Setting.{Setting}
 use Rattle.records.specs.Given.{as_setting, seen, Here}
 use Rattle.stack.specs.Tops.{tops, Fit, Passes, operation_stack}
 use Rattle.stack.specs.Laws as S
-use Rattle.stack.specs.Laws.{length-tops, drop-tops}
+use Rattle.stack.specs.Laws.{length-tops}
 use Rattle.writers.specs.Written.{Popping, Judged, Writes}
 
 -- Adding what x lacks to 2 ^ 64 has the low bytes of subtracting x.

@@ -9,7 +9,9 @@ use Rattle.writers.proofs.data.Goals as goal
 
 -- the keys of the arms
 abbrev keys : List (List ℕ)
-keys = (1 ∷ []) ∷ (2 ∷ []) ∷ (47 ∷ []) ∷ (48 ∷ []) ∷ (49 ∷ []) ∷ (50 ∷ []) ∷ (51 ∷ []) ∷ (52 ∷ []) ∷ (53 ∷ []) ∷ (54 ∷ []) ∷ (55 ∷ []) ∷ (56 ∷ []) ∷ (99 ∷ []) ∷ []
+keys =
+    (1 ∷ []) ∷ (2 ∷ []) ∷ (47 ∷ []) ∷ (48 ∷ []) ∷ (49 ∷ []) ∷ (50 ∷ []) ∷ (51 ∷ []) ∷ (52 ∷ []) ∷ (53 ∷ []) ∷ (54 ∷ []) ∷ (55 ∷ []) ∷
+    (56 ∷ []) ∷ (99 ∷ []) ∷ []
 
 pub store-requires : goal.store-requires
 unfolding table look

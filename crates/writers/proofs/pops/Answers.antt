@@ -11,6 +11,7 @@ use Rattle.writers.proofs.pops.Goals as goal
 abbrev keys : List (List ℕ)
 keys = (38 ∷ []) ∷ (39 ∷ []) ∷ (40 ∷ []) ∷ (41 ∷ []) ∷ (42 ∷ []) ∷ (43 ∷ []) ∷ (44 ∷ []) ∷ (45 ∷ []) ∷ (46 ∷ []) ∷ []
 
+-- The default arm's types are of a lower class.
 lower_class : (t : ℕ) → NoKey (Unit {0}) keys t → class (semantics t) ≤ 3 → class (semantics t) ≤ 2
 unfolding every table
 lower_class t p low = lower 2 keys t tt p low

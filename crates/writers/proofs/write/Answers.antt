@@ -9,7 +9,9 @@ use Rattle.writers.proofs.write.Goals as goal
 
 -- the keys of the arms
 abbrev keys : List (List ℕ)
-keys = (22 ∷ []) ∷ (23 ∷ []) ∷ (24 ∷ []) ∷ (25 ∷ []) ∷ (26 ∷ []) ∷ (27 ∷ []) ∷ (28 ∷ []) ∷ (29 ∷ []) ∷ (30 ∷ []) ∷ (31 ∷ []) ∷ (32 ∷ []) ∷ (33 ∷ []) ∷ (34 ∷ []) ∷ (35 ∷ []) ∷ (36 ∷ []) ∷ (37 ∷ []) ∷ []
+keys =
+    (22 ∷ []) ∷ (23 ∷ []) ∷ (24 ∷ []) ∷ (25 ∷ []) ∷ (26 ∷ []) ∷ (27 ∷ []) ∷ (28 ∷ []) ∷ (29 ∷ []) ∷ (30 ∷ []) ∷ (31 ∷ []) ∷ (32 ∷ []) ∷
+    (33 ∷ []) ∷ (34 ∷ []) ∷ (35 ∷ []) ∷ (36 ∷ []) ∷ (37 ∷ []) ∷ []
 
 pub push-requires : goal.push-requires
 unfolding table look
