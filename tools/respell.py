@@ -17,8 +17,16 @@ import sys
 QUOTED = {"S+A", "GP+G", "GP+IE", "GP+GD", "64-LO20", "64-HI12", "HI20", "LO12", "◌-PC", "-PC", "PC", "1RI20", "2RI12", "SignExtend", "GR"}
 # words of the library that our lemmas speak of; our own definitions are read from specs/
 WORDS = set("length append take drop get_or set map replicate concat shr_z to_z of_z bit_and bit_or mod mul add sub div pow number".split())
-# lemmas that would get their function's name, and one that port.py respelt so
-LEMMAS = {"record-bytes": "record_bytes_lem", "of-record": "of_record_lem", "all-from": "all_from_lem", "record-at": "record_at_lem", "value-of": "value_of_lem"}
+# names that would fall together with another, and one word that the rule for camel case does not see
+LEMMAS = {
+    "record-bytes": "bytes_of_record",
+    "record-at": "the_record",
+    "of-record": "of_some",
+    "ofARecord": "of_a_record",
+    "all-from": "all_from_lem",
+    "value-of": "value_of_lem",
+}
+# a lemma that port.py respelt as its definition is spelt here
 LEMMAS_OF = {"./crates/output/proofs/Beyond.antt": {"too_long": "too_long_lem"}}
 TOKEN = re.compile(r"[^\s(){}\[\],;.`\"':=→λ]+'*")
 DECLARED = re.compile(r"^\s*(?:abbrev |unfoldable |pub |\| )*((?:[^\s:(){}]+ )+): ")
