@@ -9,7 +9,7 @@ ghost use Rattle.meaning.specs.Numbers.{bytes_of};
 ghost use Rattle.meaning.specs.Call.{u64};
 ghost use Rattle.bytes_le.specs.Little.{Little};
 
-// The byte, widened by a function, which leaves a reader no need that it fits.
+// The byte, widened by a function, which leaves a reader no goal that it fits.
 fn wide(x: u8) -> u64
     ensures { (result ≡ x) × (result < 256) }
 {

@@ -175,7 +175,7 @@ fn kind_of(last: u8, line: &[u8]) -> u8
 #[tactic(auto, using(crate::proofs::Laws::numerals))]
 fn number(line: &[u8], at: usize) -> u64
     requires at_in_bounds { at + 16 ≤ length line.now }
-    requires line_value { F.all_digits line.now ≡ true }
+    requires all_digits { F.all_digits line.now ≡ true }
     ensures { result ≡ F.numeral 0 (take 16 (drop at line.now)) }
 {
     let mut x: u64 = 0;
@@ -205,7 +205,7 @@ fn byte_of(pair: u16) -> u8
 #[tactic(auto, using(crate::proofs::Laws::eight_bytes))]
 fn eight(digits: &[u8], bytes: &mut [u8])
     requires digits_len { (length digits.now ≡ 16) × (length bytes.old ≡ 8) }
-    requires digits_value { F.all_digits digits.now ≡ true }
+    requires all_digits { F.all_digits digits.now ≡ true }
     ensures { bytes.new ≡ F.bytes_in digits.now }
 {
     let mut pairs = [0u16; 8];
@@ -225,8 +225,8 @@ fn eight(digits: &[u8], bytes: &mut [u8])
 #[tactic(auto, using(crate::proofs::Laws::bytes_laid))]
 fn append(buffer: &mut [u8], used: usize, line: &[u8])
     requires in_bounds { 2 ≤ length line.now }
-    requires line_value { F.all_digits line.now ≡ true }
-    requires line_in_bounds { used + (length line.now - 2) / 2 ≤ length buffer.old }
+    requires all_digits { F.all_digits line.now ≡ true }
+    requires room { used + (length line.now - 2) / 2 ≤ length buffer.old }
     ensures { buffer.new ≡ laid used (F.body line.now) buffer.old }
 {
     let mut at = used;
@@ -312,11 +312,11 @@ fn gather(
     values: &mut [u8],
     records: &mut [u8],
 ) -> Gathered
-    requires line_value { F.all_digits line.now ≡ true }
-    requires line_value_2 { F.sized kind ((length line.now - 2) / 2) ≡ true }
-    requires line_in_bounds { got.section + cond (eqb kind 2) ((length line.now - 2) / 2) 0 ≤ length section.old }
-    requires line_in_bounds_2 { got.values + cond (eqb kind 3) ((length line.now - 2) / 2) 0 ≤ length values.old }
-    requires line_in_bounds_3 { got.records + cond (eqb kind 4) ((length line.now - 2) / 2) 0 ≤ length records.old }
+    requires all_digits { F.all_digits line.now ≡ true }
+    requires sized { F.sized kind ((length line.now - 2) / 2) ≡ true }
+    requires section_room { got.section + cond (eqb kind 2) ((length line.now - 2) / 2) 0 ≤ length section.old }
+    requires values_room { got.values + cond (eqb kind 3) ((length line.now - 2) / 2) 0 ≤ length values.old }
+    requires records_room { got.records + cond (eqb kind 4) ((length line.now - 2) / 2) 0 ≤ length records.old }
     ensures value { result ≡ gathered_with kind line.now got }
     ensures section_after { section.new ≡ laid got.section (own kind 2 line.now) section.old }
     ensures values_after { values.new ≡ laid got.values (own kind 3 line.now) values.old }
@@ -349,10 +349,10 @@ pub fn read(input: &[u8], section: &mut [u8], values: &mut [u8], records: &mut [
     requires section_len { length section.old ≡ section_limit }
     requires values_len { length values.old ≡ values_limit }
     requires records_len { length records.old ≡ card64.records_limit }
-    ensures records_after { reading_in result section.new values.new records.new ≡ F.reading_of input.now }
-    ensures filled { Filled section_limit result.section section.old section.new }
-    ensures filled_2 { Filled values_limit result.values values.old values.new }
-    ensures filled_3 { Filled card64.records_limit result.records records.old records.new }
+    ensures reading { reading_in result section.new values.new records.new ≡ F.reading_of input.now }
+    ensures section_filled { Filled section_limit result.section section.old section.new }
+    ensures values_filled { Filled values_limit result.values values.old values.new }
+    ensures records_filled { Filled card64.records_limit result.records records.old records.new }
 {
     let mut got = Gathered {
         number: 0,

@@ -11,7 +11,7 @@ ghost use Rattle.numbers.specs.Ranges.{between};
 // The least number whose top bit is set: from here up the bits stand for numbers below 0.
 const TOP: u64 = 1 << 63;
 
-// There is no cast that keeps the bits: a number with its top bit set is cast with all its bits turned over, and they are turned back.
+// The same bits: a number with its top bit set is cast with all its bits turned over, and they are turned back.
 pub fn signed(x: u64) -> i64
     ensures { result ≡ N.signed 64 x }
 {

@@ -129,8 +129,8 @@ fn write_all<'a>(
     fixed: &'a [u8; FIXED],
     setting: Setting,
 )
-    requires records_len_bound { (length records.now ≤ card64.records_limit) × (fixed.now ≡ fixed_rows) × (setting.rows ≡ length values.now / row_bytes) }
-    requires size_value { (setting.size ≡ length section.old) × ((records_answer (given setting values.now) records.now).number ≡ 0) }
+    requires lent { (length records.now ≤ card64.records_limit) × (fixed.now ≡ fixed_rows) × (setting.rows ≡ length values.now / row_bytes) }
+    requires judged { (setting.size ≡ length section.old) × ((records_answer (given setting values.now) records.now).number ≡ 0) }
     ensures { section.new ≡ P.patched (as_setting setting) [] section.old (M.records_of (given setting values.now) records.now) }
 {
     let count = records.len() / RECORD;

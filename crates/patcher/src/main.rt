@@ -108,7 +108,7 @@ fn answer(
     requires records_len { length records.old ≡ card64.records_limit }
     requires out_len { length out.old ≡ output_bytes }
     ensures output { Output result (output_of input.now) out.old out.new }
-    ensures by_index { (whole : List ℕ) → take input_bytes whole ≡ input.now → Output result (output_of whole) out.old out.new }
+    ensures longer { (whole : List ℕ) → take input_bytes whole ≡ input.now → Output result (output_of whole) out.old out.new }
 {
     let got = frames::read(input, section, values, records);
     let n = got.section;
@@ -127,7 +127,8 @@ fn answer(
     )
 }
 
-// Reads, answers and writes. A read that fails is no end of the input: there is then no answer, and standard error says so.
+// Reads, answers and writes, and says whether the answer was written. A read that fails is no end of the input: there is then no answer, and
+// standard error says so.
 fn run<R: Read, W: Write, E: Write>(
     reader: &mut R,
     writer: &mut W,

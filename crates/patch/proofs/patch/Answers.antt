@@ -28,8 +28,8 @@ returns-then-refuses-3 c =
     let l = limits_pass i _ c.limits-limited.ensures (sym c.if-refuses.ensures) in
     records_refuse i (masks_pass i l _ c.masks-masked.ensures (sym c.if-refuses-2.ensures)) _ c.judge-judged.ensures (sym c.if-refuses-3.ensures)
 
-pub write_all-requires-clause-records_len_bound : goal.write_all-requires-clause-records_len_bound
-write_all-requires-clause-records_len_bound c =
+pub write_all-requires-clause-lent : goal.write_all-requires-clause-lent
+write_all-requires-clause-lent c =
     let i : Input = record { section = c.args.section.now; records = c.args.records.now; values = c.args.values.now; address = c.args.address; gp = c.args.gp } in
     ((limits_pass i _ c.limits-limited.ensures (sym c.if-refuses.ensures)).few_records, c.fixed_rows-fixed.ensures, refl)
 

@@ -18,11 +18,11 @@ loop-written-init c =
 pub write-stack-requires : goal.write-stack-requires
 write-stack-requires c =
     let k = given c.args.setting c.args.values.now in
-    let t = turn c.args.setting c.args.records.now c.args.values.now _ _ c.loop-written.written _ c.requires.records_len_bound.2 c.record_at-rela.ensures c.symbol.ensures c.row-row.ensures in
-    let p = passes_here k c.args.records.now _ c.loop-written.stack.height _ c.loop-written-test.true c.loop-written.invariant.going c.requires.size_value.1 in
+    let t = turn c.args.setting c.args.records.now c.args.values.now _ _ c.loop-written.written _ c.requires.lent.2 c.record_at-rela.ensures c.symbol.ensures c.row-row.ensures in
+    let p = passes_here k c.args.records.now _ c.loop-written.stack.height _ c.loop-written-test.true c.loop-written.invariant.going c.requires.judged.1 in
     record {
       whole = record { whole = t.ready.whole; whole_row = t.ready.whole_row };
-      size = c.requires.size_value.0 ∙ sym c.loop-written.auto.section;
+      size = c.requires.judged.0 ∙ sym c.loop-written.auto.section;
       passes = subst (λ (x : Record). refusal_of (as_setting c.args.setting) x (does (as_setting c.args.setting) x) (tops c.loop-written.entries c.loop-written.stack.height) ≡ 0) (sym t.is) p;
       fit = c.loop-written.invariant.going.fit;
     }
@@ -30,8 +30,8 @@ write-stack-requires c =
 pub loop-written-preserved : goal.loop-written-preserved
 loop-written-preserved c =
     let k = given c.args.setting c.args.values.now in
-    let t = turn c.args.setting c.args.records.now c.args.values.now _ _ c.loop-written.written _ c.requires.records_len_bound.2 c.record_at-rela.ensures c.symbol.ensures c.row-row.ensures in
-    let p = passes_here k c.args.records.now _ c.loop-written.stack.height _ c.loop-written-test.true c.loop-written.invariant.going c.requires.size_value.1 in
+    let t = turn c.args.setting c.args.records.now c.args.values.now _ _ c.loop-written.written _ c.requires.lent.2 c.record_at-rela.ensures c.symbol.ensures c.row-row.ensures in
+    let p = passes_here k c.args.records.now _ c.loop-written.stack.height _ c.loop-written-test.true c.loop-written.invariant.going c.requires.judged.1 in
     let w = subst (λ (x : Record). Writes (as_setting c.args.setting) x (does (as_setting c.args.setting) x) c.loop-written.entries c.loop-written.stack.height c.loop-written.section c.write-stack.new.entries c.write-stack.result.height c.write-stack.new.section) t.is c.write-stack.ensures in
     record {
       going = goes_on k c.args.records.now _ c.loop-written.stack.height _ c.loop-written-test.true c.loop-written.invariant.going _ _ p w.stack;
