@@ -177,6 +177,7 @@ fn others(rtype: u64, stack: Stack) -> Judged
 }
 
 // 1, 2, 47 to 56, 99: bytes of data.
+#[tactic(auto, using(crate::proofs::Laws::arm), unfolding(meaning::specs::Checks::first, meaning::specs::Table::table, meaning::specs::Table::look))]
 fn data(rtype: u64, rela: &[u8], row: &[u8], setting: Setting, stack: Stack) -> Judged
     requires { (class (semantics rtype) ≤ 1) × Ready setting rela.now row.now }
     ensures { Direct (refusal_of (as_setting setting) (seen rela.now row.now) (semantics rtype) []) stack result }
@@ -192,6 +193,7 @@ fn data(rtype: u64, rela: &[u8], row: &[u8], setting: Setting, stack: Stack) -> 
 }
 
 // 64 to 98: words whose value is a formula's.
+#[tactic(auto, using(crate::proofs::Laws::arm), unfolding(meaning::specs::Checks::first, meaning::specs::Table::table, meaning::specs::Table::look))]
 fn words(rtype: u64, rela: &[u8], row: &[u8], setting: Setting, stack: Stack) -> Judged
     requires { (class (semantics rtype) ≤ 2) × Ready setting rela.now row.now }
     ensures { Direct (refusal_of (as_setting setting) (seen rela.now row.now) (semantics rtype) []) stack result }
@@ -258,6 +260,7 @@ fn push(
 }
 
 // 38 to 46: words whose value is taken from the stack.
+#[tactic(auto, unfolding(meaning::specs::Table::table, meaning::specs::Table::look))]
 fn pops(
     rtype: u64,
     rela: &[u8],
@@ -284,6 +287,7 @@ fn pops(
 }
 
 // One record's step: 22 to 37, pushes and operations, and the others by their classes.
+#[tactic(auto, unfolding(meaning::specs::Table::table, meaning::specs::Table::look))]
 pub fn step(
     rela: &[u8],
     row: &[u8],

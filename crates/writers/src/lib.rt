@@ -160,6 +160,7 @@ fn subtract(section: &mut [u8], rela: &[u8], row: &[u8], setting: Setting, of: S
 }
 
 // 1, 2, 47 to 56, 99: bytes of data. What is left writes nothing.
+#[tactic(auto, using(crate::proofs::Laws::inside), unfolding(meaning::specs::Table::table, meaning::specs::Table::look))]
 fn data(rtype: u64, section: &mut [u8], rela: &[u8], row: &[u8], setting: Setting)
     requires { (class (semantics rtype) ≤ 1) × Whole rela.now row.now × (C.outside (length section.old) (M.offset_in card64 rela.now) (C.writes (semantics rtype)) ≡ false) }
     ensures { section.new ≡ effect (as_setting setting) (seen rela.now row.now) (semantics rtype) [] section.old }
@@ -183,6 +184,7 @@ fn data(rtype: u64, section: &mut [u8], rela: &[u8], row: &[u8], setting: Settin
 }
 
 // 64 to 98: words whose value is a formula's.
+#[tactic(auto, using(crate::proofs::Laws::inside), unfolding(meaning::specs::Table::table, meaning::specs::Table::look))]
 fn words(rtype: u64, section: &mut [u8], rela: &[u8], row: &[u8], setting: Setting)
     requires { (class (semantics rtype) ≤ 2) × Whole rela.now row.now × (C.outside (length section.old) (M.offset_in card64 rela.now) (C.writes (semantics rtype)) ≡ false) }
     ensures { section.new ≡ effect (as_setting setting) (seen rela.now row.now) (semantics rtype) [] section.old }
@@ -278,6 +280,7 @@ fn push(
 }
 
 // 38 to 46: words whose value is taken from the stack.
+#[tactic(auto, unfolding(meaning::specs::Table::table, meaning::specs::Table::look))]
 fn pops(
     rtype: u64,
     section: &mut [u8],
@@ -309,6 +312,7 @@ fn pops(
 }
 
 // What a judged record writes, and the stack after it: 22 to 37, pushes and operations, and the others by their classes.
+#[tactic(auto, unfolding(meaning::specs::Table::table, meaning::specs::Table::look, stack::specs::Tops::operation_stack))]
 pub fn write(
     section: &mut [u8],
     rela: &[u8],

@@ -18,39 +18,11 @@ pops-requires c =
     let t = c.rtype-rtype.result in
     (lower 3 keys t tt (search rules) (highest t), c.requires.0, c.requires.1)
 
-pub returns-in-22 : goal.returns-in-22
-unfolding table look
-returns-in-22 c = rw (sym c.rtype-rtype.ensures ∙ c.in-22.is) c.push.ensures
-
-pub returns-in-23 : goal.returns-in-23
-unfolding table look
-returns-in-23 c = rw (sym c.rtype-rtype.ensures ∙ c.in-23.is) c.push-in-23.ensures
-
 pub returns-in-24 : goal.returns-in-24
 unfolding table look
 returns-in-24 c =
     let a = c.args in
     rw (sym c.rtype-rtype.ensures ∙ c.in-24.is) (operates (as_setting a.setting) refl (seen a.rela.now a.row.now) dup c.requires.1 c.dup.ensures)
-
-pub returns-in-25 : goal.returns-in-25
-unfolding table look
-returns-in-25 c = rw (sym c.rtype-rtype.ensures ∙ c.in-25.is) c.push-in-25.ensures
-
-pub returns-in-26 : goal.returns-in-26
-unfolding table look
-returns-in-26 c = rw (sym c.rtype-rtype.ensures ∙ c.in-26.is) c.push-in-26.ensures
-
-pub returns-in-27 : goal.returns-in-27
-unfolding table look
-returns-in-27 c = rw (sym c.rtype-rtype.ensures ∙ c.in-27.is) c.push-in-27.ensures
-
-pub returns-in-28 : goal.returns-in-28
-unfolding table look
-returns-in-28 c = rw (sym c.rtype-rtype.ensures ∙ c.in-28.is) c.push-in-28.ensures
-
-pub returns-in-29 : goal.returns-in-29
-unfolding table look
-returns-in-29 c = rw (sym c.rtype-rtype.ensures ∙ c.in-29.is) c.push-in-29.ensures
 
 pub returns-in-30 : goal.returns-in-30
 unfolding table look

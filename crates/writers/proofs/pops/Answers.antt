@@ -55,42 +55,6 @@ pop-requires-in-46 c = let p = popping (rw c.in-46.is at c.requires.1) refl refl
 pub words-requires : goal.words-requires
 words-requires c = (lower_class c.args.rtype (search rules) c.requires.0, c.requires.1.whole, placed c.requires.1)
 
-pub returns-in-38 : goal.returns-in-38
-unfolding table look
-returns-in-38 c = rw c.in-38.is (record { stack = c.pop.ensures.stack; bytes = c.pop.ensures.bytes })
-
-pub returns-in-39 : goal.returns-in-39
-unfolding table look
-returns-in-39 c = rw c.in-39.is (record { stack = c.pop-in-39.ensures.stack; bytes = c.pop-in-39.ensures.bytes })
-
-pub returns-in-40 : goal.returns-in-40
-unfolding table look
-returns-in-40 c = rw c.in-40.is (record { stack = c.pop-in-40.ensures.stack; bytes = c.pop-in-40.ensures.bytes })
-
-pub returns-in-41 : goal.returns-in-41
-unfolding table look
-returns-in-41 c = rw c.in-41.is (record { stack = c.pop-in-41.ensures.stack; bytes = c.pop-in-41.ensures.bytes })
-
-pub returns-in-42 : goal.returns-in-42
-unfolding table look
-returns-in-42 c = rw c.in-42.is (record { stack = c.pop-in-42.ensures.stack; bytes = c.pop-in-42.ensures.bytes })
-
-pub returns-in-43 : goal.returns-in-43
-unfolding table look
-returns-in-43 c = rw c.in-43.is (record { stack = c.pop-in-43.ensures.stack; bytes = c.pop-in-43.ensures.bytes })
-
-pub returns-in-44 : goal.returns-in-44
-unfolding table look
-returns-in-44 c = rw c.in-44.is (record { stack = c.pop_split.ensures.stack; bytes = c.pop_split.ensures.bytes })
-
-pub returns-in-45 : goal.returns-in-45
-unfolding table look
-returns-in-45 c = rw c.in-45.is (record { stack = c.pop_split-in-45.ensures.stack; bytes = c.pop_split-in-45.ensures.bytes })
-
-pub returns-in-46 : goal.returns-in-46
-unfolding table look
-returns-in-46 c = rw c.in-46.is (record { stack = c.pop-in-46.ensures.stack; bytes = c.pop-in-46.ensures.bytes })
-
 pub returns-in_default : goal.returns-in_default
 returns-in_default c =
     let a = c.args in

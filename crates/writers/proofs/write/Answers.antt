@@ -1,9 +1,8 @@
 -- `writers::write` meets its contract: an arm pushes or operates as its type says, by computing. Assumes nothing.
-use Rattle.std.proofs.Common.{rules, ℕ, List, [], ◌∷◌, refl, arith}
+use Rattle.std.proofs.Common.{rules, ℕ, List, [], ◌∷◌, arith}
 use Rattle.meaning.specs.Table.{table, look}
 use Rattle.lemmas.specs.Look.{every}
 use Rattle.table.specs.Keys.{highest, lower}
-use Rattle.stack.specs.Tops.{operation_stack}
 use Rattle.writers.proofs.Laws.{pushing, operating}
 use Rattle.writers.proofs.write.Goals as goal
 
@@ -81,70 +80,6 @@ pub pops-requires : goal.pops-requires
 unfolding every table
 pops-requires c =
     (lower 3 keys c.rtype-rtype.result tt (search rules) (highest c.rtype-rtype.result), rw c.rtype-rtype.ensures c.requires)
-
-pub returns-in-22 : goal.returns-in-22
-unfolding table look
-returns-in-22 c = rw (← c.rtype-rtype.ensures, c.in-22.is) (record { stack = c.push.ensures; bytes = refl })
-
-pub returns-in-23 : goal.returns-in-23
-unfolding table look
-returns-in-23 c = rw (← c.rtype-rtype.ensures, c.in-23.is) (record { stack = c.push-in-23.ensures; bytes = refl })
-
-pub returns-in-24 : goal.returns-in-24
-unfolding table look operation_stack
-returns-in-24 c = rw (← c.rtype-rtype.ensures, c.in-24.is) (record { stack = c.duplicate.ensures; bytes = refl })
-
-pub returns-in-25 : goal.returns-in-25
-unfolding table look
-returns-in-25 c = rw (← c.rtype-rtype.ensures, c.in-25.is) (record { stack = c.push-in-25.ensures; bytes = refl })
-
-pub returns-in-26 : goal.returns-in-26
-unfolding table look
-returns-in-26 c = rw (← c.rtype-rtype.ensures, c.in-26.is) (record { stack = c.push-in-26.ensures; bytes = refl })
-
-pub returns-in-27 : goal.returns-in-27
-unfolding table look
-returns-in-27 c = rw (← c.rtype-rtype.ensures, c.in-27.is) (record { stack = c.push-in-27.ensures; bytes = refl })
-
-pub returns-in-28 : goal.returns-in-28
-unfolding table look
-returns-in-28 c = rw (← c.rtype-rtype.ensures, c.in-28.is) (record { stack = c.push-in-28.ensures; bytes = refl })
-
-pub returns-in-29 : goal.returns-in-29
-unfolding table look
-returns-in-29 c = rw (← c.rtype-rtype.ensures, c.in-29.is) (record { stack = c.push-in-29.ensures; bytes = refl })
-
-pub returns-in-30 : goal.returns-in-30
-unfolding table look operation_stack
-returns-in-30 c = rw (← c.rtype-rtype.ensures, c.in-30.is) (record { stack = c.asserted.ensures; bytes = refl })
-
-pub returns-in-31 : goal.returns-in-31
-unfolding table look operation_stack
-returns-in-31 c = rw (← c.rtype-rtype.ensures, c.in-31.is) (record { stack = c.negate.ensures; bytes = refl })
-
-pub returns-in-32 : goal.returns-in-32
-unfolding table look operation_stack
-returns-in-32 c = rw (← c.rtype-rtype.ensures, c.in-32.is) (record { stack = c.combine.ensures; bytes = refl })
-
-pub returns-in-33 : goal.returns-in-33
-unfolding table look operation_stack
-returns-in-33 c = rw (← c.rtype-rtype.ensures, c.in-33.is) (record { stack = c.combine-in-33.ensures; bytes = refl })
-
-pub returns-in-34 : goal.returns-in-34
-unfolding table look operation_stack
-returns-in-34 c = rw (← c.rtype-rtype.ensures, c.in-34.is) (record { stack = c.combine-in-34.ensures; bytes = refl })
-
-pub returns-in-35 : goal.returns-in-35
-unfolding table look operation_stack
-returns-in-35 c = rw (← c.rtype-rtype.ensures, c.in-35.is) (record { stack = c.combine-in-35.ensures; bytes = refl })
-
-pub returns-in-36 : goal.returns-in-36
-unfolding table look operation_stack
-returns-in-36 c = rw (← c.rtype-rtype.ensures, c.in-36.is) (record { stack = c.combine-in-36.ensures; bytes = refl })
-
-pub returns-in-37 : goal.returns-in-37
-unfolding table look operation_stack
-returns-in-37 c = rw (← c.rtype-rtype.ensures, c.in-37.is) (record { stack = c.choose.ensures; bytes = refl })
 
 pub returns-in_default : goal.returns-in_default
 returns-in_default c = rw c.rtype-rtype.ensures at c.pops.ensures
