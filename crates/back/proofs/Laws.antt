@@ -1,6 +1,8 @@
 -- Read back over plain numbers. Assumes nothing.
-use Rattle.std.proofs.Common.{◌≡◌, ℕ, ◌+◌, ◌*◌, ◌%◌, ◌^◌, ◌≤◌, ◌<◌, Bool, true, false, not, ◌||◌, List, [], ◌∷◌, map, refl, ap, ◌∙◌, add-zero, mul-one, lt_of_lt_of_le, arith, bit_or, leb, T, pow_mono, shl_lt, shl_exact}
+use Rattle.std.proofs.Common.{◌≡◌, ℕ, ◌+◌, ◌*◌, ◌/◌, ◌%◌, ◌^◌, ◌≤◌, ◌<◌, Bool, true, false, not, ◌||◌, List, [], ◌∷◌, ◌++◌, map, refl, sym, ap, ◌∙◌, add-zero, mul-one, add-mul, mul_assoc, add_assoc, zero-mul, zero-add, mod-lt, pow_pos, lt_of_lt_of_le, arith, bit_or, leb, T, pow-add, pow_mono, shl_lt, shl_exact, length, take, get_or}
 use Rattle.std.proofs.lemmas.Bool.{lt-leb, false≢true}
+use Rattle.std.proofs.lemmas.List.{take_more}
+use Rattle.std.proofs.lemmas.List.Sums.{sum_by_more, sum_by_more_le}
 use lib.Bits.{or_lt, or_shifted}
 use types.Run.{OneOf}
 use Rattle.meaning.specs.Table.{Semantics, table, look, semantics}
@@ -10,65 +12,84 @@ use Rattle.lemmas.specs.Look.{every, found}
 use Rattle.table.specs.declared.Part.{Part}
 use Rattle.table.specs.Columns.{part_from}
 use Rattle.table.specs.Keys.{same_keys, from_up, in_range, NoKey, some_key, last_arm}
-use Rattle.back.specs.Fields.{Inside, Bare}
+use Rattle.back.specs.Fields.{bits_in, Bare}
 
--- ---- refusal 4: the word types
+-- ---- the word types
 
 abbrev is_word : Semantics → Bool
 is_word d = of_word d (λ source range. true)
 
 -- One answer at each of n types, from type k on.
-from_to : (b : Bool) (k n t : ℕ) → map (λ j. b) (from_up k n) ≡ map (λ j. not (is_word (semantics j))) (from_up k n) → k ≤ t → t < k + n →
-    b ≡ not (is_word (semantics t))
-from_to b k n t p l h = same_keys (λ j. not (is_word (semantics j))) b (from_up k n) t (in_range k n t l h) p
+from_to : (b : Bool) (k n t : ℕ) → map (λ j. b) (from_up k n) ≡ map (λ j. is_word (semantics j)) (from_up k n) → k ≤ t → t < k + n →
+    b ≡ is_word (semantics t)
+from_to b k n t p l h = same_keys (λ j. is_word (semantics j)) b (from_up k n) t (in_range k n t l h) p
 
-is_true : (b : Bool) → T b → true ≡ b
-is_true true h = refl
-is_true false h = absurd h
+is_false : (b : Bool) → T (not b) → false ≡ b
+is_false true h = absurd h
+is_false false h = refl
 
-pub below_38 : (t : ℕ) → t < 38 → true ≡ not (is_word (semantics t))
+pub below_38 : (t : ℕ) → t < 38 → false ≡ is_word (semantics t)
 unfolding from_up look table
-below_38 t h = from_to true 0 38 t refl (omega arith) h
+below_38 t h = from_to false 0 38 t refl (omega arith) h
 
-pub to_46 : (t : ℕ) → 38 ≤ t → t < 47 → false ≡ not (is_word (semantics t))
+pub to_46 : (t : ℕ) → 38 ≤ t → t < 47 → true ≡ is_word (semantics t)
 unfolding from_up look table
-to_46 t l h = from_to false 38 9 t refl l h
+to_46 t l h = from_to true 38 9 t refl l h
 
-pub to_63 : (t : ℕ) → 47 ≤ t → t < 64 → true ≡ not (is_word (semantics t))
+pub to_63 : (t : ℕ) → 47 ≤ t → t < 64 → false ≡ is_word (semantics t)
 unfolding from_up look table
-to_63 t l h = from_to true 47 17 t refl l h
+to_63 t l h = from_to false 47 17 t refl l h
 
-pub to_98 : (t : ℕ) → 64 ≤ t → t < 99 → false ≡ not (is_word (semantics t))
+pub to_98 : (t : ℕ) → 64 ≤ t → t < 99 → true ≡ is_word (semantics t)
 unfolding from_up look table
-to_98 t l h = from_to false 64 35 t refl l h
+to_98 t l h = from_to true 64 35 t refl l h
 
-pub above_98 : (t : ℕ) → 98 < t → true ≡ not (is_word (semantics t))
+pub above_98 : (t : ℕ) → 98 < t → false ≡ is_word (semantics t)
 unfolding every table
 above_98 t h =
-    found (λ d. true ≡ not (is_word d)) (λ k d. leb k 98 || not (is_word d)) table t tt (λ d p. is_true (not (is_word d)) (rw (lt-leb t 98 h) at p)) refl
+    found (λ d. false ≡ is_word d) (λ k d. leb k 98 || not (is_word d)) table t tt (λ d p. is_false (is_word d) (rw (lt-leb t 98 h) at p)) refl
 
 pub ruleset word_types = (below_38, to_46, to_63, to_98, above_98)
 
--- ---- the bare field: one part, or one above the other
+-- ---- the bare field, part by part
 
-many_is : (p : Part) → Inside p → many (part_from p) ≡ p.many
-many_is p h = omega arith
+many_is : (p : Part) → many (part_from p) ≡ p.many
+many_is p = omega (arith, p.some)
 
-pub bare_one : (p : Part) → Inside p → (w : ℕ) → slice p.at p.many w ≡ bare (part_from p ∷ []) w
+-- a part more, below the others
+wide_more : (ps : List Part) (q : Part) → wide (map part_from (ps ++ q ∷ [])) ≡ wide (map part_from ps) + q.many
+unfolding wide
+wide_more [] q = rw (many_is q) (omega arith)
+wide_more (p ∷ ps) q = omega (arith, wide_more ps q)
+
+bare-more : (ps : List Part) (q : Part) (w : ℕ) →
+    bare (map part_from (ps ++ q ∷ [])) w ≡ bare (map part_from ps) w * 2 ^ q.many + slice q.at q.many w
 unfolding bare wide
-bare_one p h w = simp (many_is p h, mul-one, add-zero)
+bare-more [] q w = simp (many_is q, mul-one, add-zero, zero-mul, zero-add)
+bare-more (p ∷ ps) q w = simp (wide_more ps q, bare-more ps q w, pow-add, add-mul, mul_assoc, add_assoc)
 
-pub bare_two : (p q : Part) → Inside p → Inside q → (w : ℕ) {high low : ℕ} → Bare (part_from p ∷ []) p.many w high →
-    Bare (part_from q ∷ []) q.many w low → Bare (part_from p ∷ part_from q ∷ []) (p.many + q.many) w (bit_or (high * 2 ^ q.many % 2 ^ 64) low)
-unfolding bare wide
-bare_two p q in_p in-q w {high} {low} h l =
-    let exact = shl_exact p.many q.many 64 h.small (omega arith) in
+-- no part yet, and after i of the parts one more
+pub bare_none : (w : ℕ) → Bare [] 0 w 0
+unfolding bare
+bare_none w = record { is = refl; small = omega arith }
+
+pub field_more : (parts : List Part) (i : ℕ) (d : Part) (w x : ℕ) → i < length parts → bits_in parts ≤ 64 →
+    Bare (map part_from (take i parts)) (bits_in (take i parts)) w x →
+    Bare (map part_from (take (i + 1) parts)) (bits_in (take (i + 1) parts)) w
+    (bit_or (x * 2 ^ (get_or parts i d).many % 2 ^ 64) (slice (get_or parts i d).at (get_or parts i d).many w))
+field_more parts i d w x l fits b =
+    let q = get_or parts i d in
+    let n = bits_in (take i parts) in
+    let most : n + q.many ≤ 64 = omega (arith, sum_by_more_le (λ (p : Part). p.many) parts i d l) in
+    let small : slice q.at q.many w < 2 ^ q.many = mod-lt (w / 2 ^ q.at) (pow_pos q.many) in
+    let exact : x * 2 ^ q.many % 2 ^ 64 ≡ x * 2 ^ q.many = shl_exact n q.many 64 b.small most in
+    rw (exact, sum_by_more (λ (p : Part). p.many) parts i d l, take_more parts i d l)
     record {
-      is = ap (λ (y : ℕ). bit_or y low) exact ∙ or_shifted high q.many low l.small ∙ rw (h.is, l.is) (simp (many_is q in-q, mul-one, add-zero));
-      small =
-          rw exact
-          (or_lt (p.many + q.many) (high * 2 ^ q.many) low (shl_lt p.many q.many h.small) (lt_of_lt_of_le l.small (pow_mono (omega arith))));
+      is = or_shifted x q.many (slice q.at q.many w) small ∙ ap (λ (y : ℕ). y * 2 ^ q.many + slice q.at q.many w) b.is ∙ sym (bare-more (take i parts) q w);
+      small = or_lt (n + q.many) (x * 2 ^ q.many) (slice q.at q.many w) (shl_lt n q.many b.small) (lt_of_lt_of_le small (pow_mono (omega arith)));
     }
+
+pub ruleset bare_parts = (bare_none, field_more)
 
 -- ---- the word types that are left for the default arm
 

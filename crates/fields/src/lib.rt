@@ -1,5 +1,6 @@
 // One part of a field, shifted and masked into an instruction word and out of it. A word is held in a u64, below 2 ^ 32, so that a part
 // as wide as the word needs no path of its own.
+// A part's numbers come one by one: the clauses of `extract` and `insert` take a part of no bits, too, which table's Part never is.
 
 #![tactic(auto)]
 
@@ -15,6 +16,7 @@ fn ones(n: u32) -> u64
 }
 
 // The `many` bits of x from bit `at` up.
+#[tactic(auto, using(std::proofs::lemmas::Nat::and_mask, std::proofs::lemmas::Nat::mod_below, std::proofs::lemmas::Nat::pow_pos))]
 pub fn extract(x: u64, many: u32, at: u32) -> u64
     requires { (many ≤ 32) × (at < 64) }
     ensures { (result ≡ slice at many x) × (result < 2 ^ many) }

@@ -1,19 +1,29 @@
 -- Text as the code goes through it, over plain numbers and lists.
-use Prim.Native.Nat.{ℕ, zero, suc, ◌+◌, ◌-◌, ◌*◌, ◌/◌, ◌%◌, ◌^◌, ◌≤◌, ◌<◌}
-use native.Mathlib.Nat.{add-zero, le_of_suc-le-suc, not-suc-le-zero}
+use Prim.Native.Nat.{ℕ, zero, suc, ◌+◌, ◌-◌, ◌*◌, ◌/◌, ◌%◌, ◌≤◌, ◌<◌}
+use native.Mathlib.Nat.{zero-add, add-zero, add_assoc, mul-zero, mul-suc, le_of_suc-le-suc, not-suc-le-zero}
 use native.Mathlib.Numerals.{add-one}
 use native.Mathlib.Omega.{arith}
 use mathlib.Core.Bool.{Bool, true, false, cond, ◌&&◌, false≢true}
 use mathlib.Core.List.{List, [], ◌∷◌, ◌++◌, append_assoc, append-nil}
-use mathlib.Core.Path.{◌≡◌, refl, sym, ap, ◌∙◌, subst}
+use mathlib.Core.Path.{◌≡◌, refl, sym, ap, ◌∙◌}
 use borrow.Rule.Slice.PartMut.{put_mid}
+use borrow.Author.Tests.{eqb-true}
 use Rattle.std.proofs.lemmas.Bool.Decides.{nat_tests}
+use Rattle.std.specs.List.{prefix_len}
+use Rattle.std.specs.Simd.{first_chunks}
 use lib.Dec.{eqb, ltb}
 use lib.ListN.{length, take, drop, get_or, set, length-append, length-drop, length-set, take-append-drop, drop_of_length-le}
-use lib.Pow.{pow-add, pow_mono}
+use Rattle.std.proofs.lemmas.List.{get_or-take, get_or-drop}
+use Rattle.std.specs.Int.{w64, from_be_bytes}
 use lib.Seq.{drop-cons, take-suc-set, drop-set-lt, length-take-le, take_at, drop_at, drop-drop}
-use Rattle.meaning.specs.Frames.{lines_of, onto, digit, all_digits, numeral, bytes_in, kind, body, sized, well_formed}
-use Rattle.frames.specs.Text.{line_length, digits_length, laid}
+use Rattle.meaning.specs.Frames.{lines_of, onto, digit, all_digits, numeral, bytes_in, kind, sized, follows, well_formed}
+use Rattle.std.specs.Prelude.{Ok, Err}
+use Rattle.refusals.specs.declared.Refusal.{Refusal}
+use Rattle.refusals.specs.declared.Refusal.TheVariants.{BadLine}
+use Rattle.frames.specs.declared.Kind.{Kind}
+use Rattle.frames.specs.declared.Kind.TheVariants.{Numbers, Section, Row, Record}
+use Rattle.frames.specs.Kinds.{kind_number, kind_numbered}
+use Rattle.frames.specs.Text.{line_length, FirstLine, digits_length, IsFrame, laid}
 
 -- ---- a digit
 
@@ -28,18 +38,26 @@ no_feed b d = (grind (arith, nat_tests), grind (arith, nat_tests))
 
 -- ---- a line
 
-module _ (s : List ℕ) (at : ℕ) where
-  pub feed_test : at < length s → eqb (get_or s at 0) 10 ≡ eqb (line_length (drop at s)) 0
-  unfolding line_length
-  feed_test h = rw (drop-cons s at 0 h) (grind (arith, nat_tests))
+pub line_inside : (s : List ℕ) → line_length s ≤ length s
+unfolding line_length
+line_inside [] = omega arith
+line_inside (b ∷ s) = let r = line_inside s in grind (arith, nat_tests)
 
-  pub no_line_here : length s ≤ at → line_length (drop at s) ≡ 0
-  unfolding line_length
-  no_line_here h = rw (drop_of_length-le s {i = at} h)
+-- by what a text begins with: nothing, a line feed, or another byte
+pub no_line : (s : List ℕ) → length s < 1 → (line_length s ≡ 0) × (s ≡ drop 1 s)
+unfolding line_length
+no_line [] h = (refl, refl)
+no_line (b ∷ s) h = absurd (omega arith)
 
-  pub no_lines : length s ≤ at → lines_of (drop at s) ≡ []
-  unfolding lines_of
-  no_lines h = rw (drop_of_length-le s {i = at} h)
+pub feed_first : (s : List ℕ) → get_or s 0 0 ≡ 10 → line_length s ≡ 0
+unfolding line_length
+feed_first [] e = refl
+feed_first (b ∷ s) e = grind (arith, nat_tests)
+
+pub none_first : (s : List ℕ) → 1 ≤ length s → (get_or s 0 0 ≡ 10 → ⊥) → 0 < line_length s
+unfolding line_length
+none_first [] h e = absurd (omega arith)
+none_first (b ∷ s) h e = grind (arith, nat_tests)
 
 -- the first line, and those after it
 pub first-line : (s : List ℕ) → 0 < length s → lines_of s ≡ take (line_length s) s ∷ lines_of (drop (suc (line_length s)) s)
@@ -64,20 +82,6 @@ module _ (l : List ℕ) (i : ℕ) where
   unfolding all_digits
   digits_end h = rw (drop_of_length-le l {i = i} h)
 
--- where the digits from a place on end
-module _ (s : List ℕ) (at : ℕ) where
-  pub digit_here : at < length s → ltb (digit (get_or s at 0)) 16 ≡ true → digits_length (drop at s) ≡ digits_length (drop (at + 1) s) + 1
-  unfolding digits_length
-  digit_here h e = rw (add-one at, drop-cons s at 0 h, e) (sym (add-one (digits_length (drop (suc at) s))))
-
-  pub no_digit_here : at < length s → ltb (digit (get_or s at 0)) 16 ≡ false → digits_length (drop at s) ≡ 0
-  unfolding digits_length
-  no_digit_here h e = rw (drop-cons s at 0 h, e)
-
-  pub no_digits_here : length s ≤ at → digits_length (drop at s) ≡ 0
-  unfolding digits_length
-  no_digits_here h = rw (drop_of_length-le s {i = at} h)
-
 -- a piece of digits, and those after it
 pub digits-run : (n : ℕ) (l : List ℕ) → n ≤ length l → all_digits (take n l) ≡ true → digits_length l ≡ n + digits_length (drop n l)
 unfolding digits_length all_digits
@@ -85,11 +89,58 @@ digits-run zero l h e = omega arith
 digits-run (suc n) [] h e = absurd (not-suc-le-zero h)
 digits-run (suc n) (b ∷ l) h e = let r = digits-run n l (le_of_suc-le-suc h) in grind (arith, nat_tests)
 
-pub sixteen_digits : (at : ℕ) (s : List ℕ) → at + 16 ≤ length s → all_digits (take (at + 16 - at) (drop at s)) ≡ true →
-    digits_length (drop at s) ≡ 16 + digits_length (drop (at + 16) s)
-sixteen_digits at s h e =
-    let k : at + 16 - at ≡ 16 = omega arith in
-    digits-run 16 (drop at s) (rw length-drop (omega arith)) (rw k at e) ∙ ap (λ (l : List ℕ). 16 + digits_length l) (drop-drop 16 at s)
+-- ---- how many digits a text begins with
+
+pub digits_inside : (l : List ℕ) → digits_length l ≤ length l
+unfolding digits_length
+digits_inside [] = omega arith
+digits_inside (b ∷ l) = let r = digits_inside l in grind (arith, nat_tests)
+
+digits_single : (l : List ℕ) → prefix_len (λ b. ltb (digit b) 16) l ≡ digits_length l
+unfolding digits_length
+digits_single [] = refl
+digits_single (b ∷ l) = go (ltb (digit b) 16) (digits_single l)
+  where
+    go : (t : Bool) → prefix_len (λ b. ltb (digit b) 16) l ≡ digits_length l → cond t (1 + prefix_len (λ b. ltb (digit b) 16) l) 0 ≡ cond t (suc (digits_length l)) 0
+    go true e = omega arith
+    go false e = refl
+
+-- how many pieces of sixteen are digits, of the first k
+abbrev pub pieces : ℕ → List ℕ → ℕ
+pieces k l = prefix_len all_digits (first_chunks 16 k l)
+
+pieces_few : (k : ℕ) (l : List ℕ) → pieces k l ≤ k
+pieces_few zero l = omega arith
+pieces_few (suc k) l = let r : pieces k (drop 16 l) ≤ k = pieces_few k (drop 16 l) in go (all_digits (take 16 l)) r
+  where
+    go : (t : Bool) → pieces k (drop 16 l) ≤ k → cond t (1 + pieces k (drop 16 l)) 0 ≤ suc k
+    go true r = omega arith
+    go false r = omega arith
+
+digits_after : (k : ℕ) (l : List ℕ) → 16 * k ≤ length l → 16 * pieces k l + digits_length (drop (16 * pieces k l) l) ≡ digits_length l
+digits_after zero l h = zero-add (digits_length l)
+digits_after (suc k) l h =
+    let d : length (drop 16 l) ≡ length l - 16 = length-drop 16 l in
+    let n : 16 * (1 + pieces k (drop 16 l)) ≡ 16 + 16 * pieces k (drop 16 l) = omega arith in
+    go (all_digits (take 16 l)) refl (λ e.
+    rw (n, ← drop-drop (16 * pieces k (drop 16 l)) 16 l, digits-run 16 l (omega arith) e, ← digits_after k (drop 16 l) (omega arith))
+    (add_assoc 16 (16 * pieces k (drop 16 l)) (digits_length (drop (16 * pieces k (drop 16 l)) (drop 16 l)))))
+  where
+    go : (t : Bool) → all_digits (take 16 l) ≡ t →
+        (all_digits (take 16 l) ≡ true → 16 * (1 + pieces k (drop 16 l)) + digits_length (drop (16 * (1 + pieces k (drop 16 l))) l) ≡ digits_length l) →
+        16 * cond t (1 + pieces k (drop 16 l)) 0 + digits_length (drop (16 * cond t (1 + pieces k (drop 16 l)) 0) l) ≡ digits_length l
+    go true e more = more e
+    go false e more = zero-add (digits_length l)
+
+pub whole_fits : (l : List ℕ) → 16 * pieces (length l / 16) l ≤ length l
+whole_fits l = let f : pieces (length l / 16) l ≤ length l / 16 = pieces_few (length l / 16) l in omega arith
+
+pub digits_whole : (l : List ℕ) (k n : ℕ) → k ≡ pieces (length l / 16) l → n ≡ prefix_len (λ b. ltb (digit b) 16) (drop (16 * k) l) → 16 * k + n ≡ digits_length l
+digits_whole l k n e f =
+    rw (f, digits_single (drop (16 * k) l), e) (digits_after (length l / 16) l (omega arith))
+
+-- `digits_len`
+pub ruleset whole_and_single = (whole_fits, digits_whole, digits_inside)
 
 -- digits are no line feeds: a line is its first digits, and what is left of it
 pub digits-first : (l : List ℕ) → line_length l ≡ digits_length l + line_length (drop (digits_length l) l)
@@ -109,57 +160,29 @@ no_digits n [] h k = absurd (not-suc-le-zero k)
 no_digits zero (b ∷ l) h k = absurd (not-suc-le-zero h)
 no_digits (suc n) (b ∷ l) h k = let r = no_digits n l in grind (arith, nat_tests)
 
--- the digits from a place on, where they end a line and where they do not
-module _ (s : List ℕ) (at end : ℕ) (is : end ≡ at + digits_length (drop at s)) where
-  rest : drop (digits_length (drop at s)) (drop at s) ≡ drop end s
-  rest = drop-drop (digits_length (drop at s)) at s ∙ ap (λ (k : ℕ). drop k s) (sym is)
+-- a text whose digits end its line, and one whose digits do not
+module _ (s left : List ℕ) (n : ℕ) (is : n ≡ digits_length s) (after : left ≡ drop n s) where
+  line_split : line_length s ≡ n + line_length left
+  line_split = rw (after, is) (digits-first s)
 
-  split : line_length (drop at s) ≡ digits_length (drop at s) + line_length (drop end s)
-  split = digits-first (drop at s) ∙ ap (λ (l : List ℕ). digits_length (drop at s) + line_length l) rest
+  pub line_here : line_length left ≡ 0 → (rest : List ℕ) → rest ≡ drop 1 left → FirstLine s (take n s) rest
+  line_here e rest r =
+      let q = line_split in
+      let k : line_length s ≡ n = omega arith in
+      record { line_is = rw k; digits = rw is (digits_alone s); rest_is = rw (r, after, k) (drop-drop 1 n s) }
 
-  pub line_is : line_length (drop end s) ≡ 0 → end ≡ at + line_length (drop at s)
-  line_is e = let q = split in omega arith
-
-  pub line-digits : all_digits (take (end - at) (drop at s)) ≡ true
-  line-digits = let n : end - at ≡ digits_length (drop at s) = omega arith in rw n (digits_alone (drop at s))
-
-  pub line_broken : at ≤ length s → (line_length (drop end s) ≡ 0 → ⊥) → all_digits (take (line_length (drop at s)) (drop at s)) ≡ false
-  line_broken o e =
-      let q = split in
-      let h : end < length s = grind (arith, no_line_here) in
-      no_digits (line_length (drop at s)) (drop at s) (omega (arith, e)) (rw length-drop (omega arith))
+  pub line_broken : 0 < line_length left → all_digits (take (line_length s) s) ≡ false
+  line_broken h =
+      let q = line_split in
+      let l : line_length left ≤ length left = line_inside left in
+      let d : length left ≡ length s - n = rw after (length-drop n s) in
+      no_digits (line_length s) s (omega arith) (omega arith)
 
 pub digits_at : (l : List ℕ) (i : ℕ) → all_digits l ≡ true → i < length l → digit (get_or l i 0) < 16
 unfolding all_digits
 digits_at [] i e h = absurd (not-suc-le-zero h)
 digits_at (b ∷ l) zero e h = grind (arith, nat_tests)
 digits_at (b ∷ l) (suc i) e h = digits_at l i (grind (arith, nat_tests)) (le_of_suc-le-suc h)
-
-pub numeral-more : (x m at : ℕ) (l : List ℕ) → at < length l →
-    numeral x (take (suc m) (drop at l)) ≡ numeral (16 * x + digit (get_or l at 0)) (take m (drop (suc at) l))
-unfolding numeral
-numeral-more x m at l h = rw (drop-cons l at 0 h)
-
--- the sixteen digits at a place, one by one
-pub numeral_next : (x i at : ℕ) (l : List ℕ) → i < 16 → at + i < length l →
-    numeral x (take (16 - i) (drop (at + i) l)) ≡ numeral (16 * x + digit (get_or l (at + i) 0)) (take (16 - (i + 1)) (drop (at + (i + 1)) l))
-numeral_next x i at l h k =
-    let m : 16 - i ≡ suc (16 - (i + 1)) = omega arith in
-    let n : at + (i + 1) ≡ suc (at + i) = omega arith in
-    rw (m, n) (numeral-more x (16 - (i + 1)) (at + i) l k)
-
-pub numeral_done : (x i : ℕ) (l : List ℕ) → 16 ≤ i → numeral x (take (16 - i) l) ≡ x
-unfolding numeral
-numeral_done x i l h = let m : 16 - i ≡ 0 = omega arith in rw m
-
--- sixteen digits are 64 bits: those before one more leave room for it
-pub digits_room : (i : ℕ) → i < 16 → 2 ^ (4 * i) ≤ 2 ^ 60
-digits_room i h = pow_mono {i = 4 * i} {j = 60} (omega arith)
-
-pub digit_room : (i : ℕ) → 2 ^ (4 * (i + 1)) ≡ 16 * 2 ^ (4 * i)
-digit_room i =
-    let e : 4 * (i + 1) ≡ 4 * i + 4 = omega arith in
-    rw (e, pow-add 2 (4 * i) 4) (omega arith)
 
 pub bytes_more : (from : ℕ) (l : List ℕ) → suc from < length l →
     bytes_in (drop from l) ≡ (16 * digit (get_or l from 0) + digit (get_or l (suc from) 0)) ∷ bytes_in (drop (suc (suc from)) l)
@@ -182,31 +205,89 @@ length_bytes (b ∷ d ∷ l) = let e : length (bytes_in l) ≡ length l / 2 = le
 
 -- ---- a frame
 
-pub length_body : (line : List ℕ) → length (body line) ≡ (length line - 2) / 2
-length_body line = rw (length_bytes (drop 2 line), length-drop)
-
-pub kind_is : (line : List ℕ) → 1 < length line → kind line ≡ 16 * digit (get_or line 0 0) + digit (get_or line 1 0)
+kind_of : (line : List ℕ) → 1 < length line → kind line ≡ 16 * digit (get_or line 0 0) + digit (get_or line 1 0)
 unfolding numeral
-kind_is [] h = absurd (not-suc-le-zero h)
-kind_is (a ∷ []) h = absurd (not-suc-le-zero (le_of_suc-le-suc h))
-kind_is (a ∷ b ∷ line) h = omega arith
+kind_of [] h = absurd (not-suc-le-zero h)
+kind_of (a ∷ []) h = absurd (not-suc-le-zero (le_of_suc-le-suc h))
+kind_of (a ∷ b ∷ line) h = omega arith
 
 -- a line that is no well-formed frame, by the first test that says so
 module _ (last : ℕ) (line : List ℕ) where
-  pub no_kind : well_formed last line ≡ false → 0 ≡ cond (well_formed last line) (kind line) 0
-  no_kind e = rw e
-
   pub no_digit : all_digits line ≡ false → well_formed last line ≡ false
   unfolding well_formed
   no_digit e = rw e
 
-  pub no_frame : length line ≡ 0 → well_formed last line ≡ false
-  unfolding well_formed all_digits sized numeral
-  no_frame h = go line h
+  pub no_kind : length line < 2 → well_formed last line ≡ false
+  unfolding well_formed sized numeral all_digits bytes_in
+  no_kind h = go line h
     where
-      go : (l : List ℕ) → length l ≡ 0 → well_formed last l ≡ false
+      go : (l : List ℕ) → length l < 2 → well_formed last l ≡ false
       go [] h = refl
-      go (b ∷ l) h = absurd (not-suc-le-zero (subst (λ (n : ℕ). suc 0 ≤ n) h (omega arith)))
+      go (b ∷ []) h = go1 (all_digits (b ∷ []))
+        where
+          go1 : (t : Bool) → ((t && false) && sized (kind (b ∷ [])) 0) && follows last (kind (b ∷ [])) ≡ false
+          go1 true = refl
+          go1 false = refl
+      go (b ∷ d ∷ l) h = absurd (omega arith)
+
+  -- and what is left to test of a line of digits
+  pub tests_left : all_digits line ≡ true →
+      well_formed last line ≡ ((eqb (length line % 2) 0 && sized (kind line) (length (drop 2 line) / 2)) && follows last (kind line))
+  unfolding well_formed
+  tests_left e = rw (e, length_bytes (drop 2 line))
+
+-- no kind is 0, which says that there is none
+pub some_kind : (k : Kind) → kind_number k ≡ 0 → ⊥
+some_kind k = elim k as (λ j. kind_number j ≡ 0 → ⊥) [ Numbers ↦ λ z. omega arith | _ ↦ λ z. omega arith ]
+
+-- the kind of a number, and a number that no kind has
+its_kind : (n : ℕ) (k : Kind) → kind_numbered n ≡ Ok k → kind_number k ≡ n
+its_kind n Numbers e = grind (arith, nat_tests)
+its_kind n Section e = grind (arith, nat_tests)
+its_kind n Row e = grind (arith, nat_tests)
+its_kind n Record e = grind (arith, nat_tests)
+
+pub two_numbers : (k : Kind) (n : ℕ) → k ≡ Numbers → sized (kind_number k) n ≡ true → n ≡ 16
+unfolding sized
+two_numbers k n e s = eqb-true n 16 (rw e at s)
+
+no_kind_has : (n m : ℕ) (e : Refusal) → kind_numbered n ≡ Err e → (e ≡ BadLine) × (sized n m ≡ false)
+unfolding sized
+no_kind_has n m e h = (grind (arith, nat_tests), grind (arith, nat_tests))
+
+-- whether a line of digits is a frame, by its kind's number n and how many digits stand after it
+module _ (last n : ℕ) (line : List ℕ) (long : 2 ≤ length line) (digits : all_digits line ≡ true)
+    (first : n ≡ 16 * digit (get_or line 0 0) + digit (get_or line 1 0)) where
+  kind_is : kind line ≡ n
+  kind_is = kind_of line long ∙ sym first
+
+  pub bad_kind : (e : Refusal) → kind_numbered n ≡ Err e → (e ≡ BadLine) × (well_formed last line ≡ false)
+  bad_kind e h =
+      let k = no_kind_has n (length (drop 2 line) / 2) e h in
+      (k.0, rw (tests_left last line digits, kind_is, k.1) (none (eqb (length line % 2) 0) (follows last n)))
+    where
+      none : (a b : Bool) → (a && false) && b ≡ false
+      none true b = refl
+      none false b = refl
+
+  pub its_frame : (k : Kind) (m : ℕ) → kind_numbered n ≡ Ok k → m ≡ length (drop 2 line) →
+      (eqb (m % 2) 0 && follows last (kind_number k)) && sized (kind_number k) (m / 2) ≡ well_formed last line
+  its_frame k m h e =
+      let d : length (drop 2 line) ≡ length line - 2 = length-drop 2 line in
+      let even : m % 2 ≡ length line % 2 = omega arith in
+      rw (tests_left last line digits, kind_is, its_kind n k h, even, e) (swapped (eqb (length line % 2) 0) (follows last n) (sized n (length (drop 2 line) / 2)))
+    where
+      swapped : (a b d : Bool) → (a && b) && d ≡ (a && d) && b
+      swapped true true true = refl
+      swapped true true false = refl
+      swapped true false true = refl
+      swapped true false false = refl
+      swapped false b d = refl
+
+  pub is_frame : (k : Kind) → kind_numbered n ≡ Ok k → (tail : List ℕ) → tail ≡ drop 2 line →
+      true ≡ (eqb (length tail % 2) 0 && follows last (kind_number k)) && sized (kind_number k) (length tail / 2) → IsFrame last line (kind_number k) tail
+  is_frame k h tail e t =
+      record { formed = sym (t ∙ its_frame k (length tail) h (ap length e)); kind_is = its_kind n k h ∙ sym kind_is; digits_are = e }
 
 -- ---- laying bytes over others
 
@@ -278,11 +359,6 @@ bytes_split (suc n) (a ∷ b ∷ l) h =
     let r : bytes_in l ≡ bytes_in (take (n + n) l) ++ bytes_in (drop (n + n) l) = bytes_split n l (omega arith) in
     rw m (ap (λ (t : List ℕ). (16 * digit a + digit b) ∷ t) r)
 
-pub piece_length : (at n : ℕ) (s : List ℕ) → at + n ≤ length s → length (take (at + n - at) (drop at s)) ≡ n
-piece_length at n s h =
-    let k : at + n - at ≡ n = omega arith in
-    rw k (length-take-le n (drop at s) (rw length-drop (omega arith)))
-
 digits-taken : (n : ℕ) (l : List ℕ) → all_digits l ≡ true → all_digits (take n l) ≡ true
 unfolding all_digits
 digits-taken zero l e = refl
@@ -295,42 +371,91 @@ digits_part zero n l e = digits-taken n l e
 digits_part (suc at) n [] e = digits-taken n [] refl
 digits_part (suc at) n (b ∷ l) e = digits_part at n l (grind (arith, nat_tests))
 
--- eight bytes laid as a part
-module _ (at : ℕ) (s w : List ℕ) (long : length w ≡ 8) where
-  pub part_laid : put_mid at (at + 8 - at) s w ≡ laid at w s
-  unfolding laid
-  part_laid = let k : at + 8 - at ≡ 8 = omega arith in rw (k, long, drop-drop 8 at s)
+-- the i-th of the first k pieces of n
+pub piece_is : {X : Type 0} (n k i : ℕ) (l : List X) (d : List X) → i < k → get_or (first_chunks n k l) i d ≡ take n (drop (n * i) l)
+piece_is n zero i l d h = absurd (not-suc-le-zero h)
+piece_is n (suc k) zero l d h = let e : n * 0 ≡ 0 = omega (arith, mul-zero n) in ap (λ (j : ℕ). take n (drop j l)) (sym e)
+piece_is n (suc k) (suc i) l d h =
+    let e : n * suc i ≡ n + n * i = omega (arith, mul-suc n i) in
+    piece_is n k i (drop n l) d (le_of_suc-le-suc h) ∙ ap (take n) (drop-drop (n * i) n l ∙ ap (λ (j : ℕ). drop j l) (sym e))
 
-  pub length_part : at + 8 ≤ length s → length (put_mid at (at + 8 - at) s w) ≡ length s
-  length_part fits = ap length part_laid ∙ length-laid at s w (omega arith)
+-- a whole piece of digits, and its eight bytes laid as a part
+module _ (l : List ℕ) (pieces : List (List ℕ)) (cut : pieces ≡ first_chunks 16 (length l / 16) l) (i : ℕ) (here : i < length l / 16) where
+  piece : get_or pieces i [] ≡ take 16 (drop (16 * i) l)
+  piece = rw cut (piece_is 16 (length l / 16) i l [] here)
 
-  pub laid_eight : (from : ℕ) (l : List ℕ) → from + 16 ≤ length l → at + 8 ≤ length s → w ≡ bytes_in (take (from + 16 - from) (drop from l)) →
-      laid (at + 8) (bytes_in (drop (from + 16) l)) (put_mid at (at + 8 - at) s w) ≡ laid at (bytes_in (drop from l)) s
-  laid_eight from l h fits e =
-      let k : from + 16 - from ≡ 16 = omega arith in
-      let is : w ≡ bytes_in (take 16 (drop from l)) = rw k at e in
-      let n : 16 ≤ length (drop from l) = rw length-drop (omega arith) in
-      let parts : bytes_in (drop from l) ≡ w ++ bytes_in (drop (from + 16) l) = rw (is, ← drop-drop 16 from l) (bytes_split 8 (drop from l) n) in
-      sym (ap (λ (x : List ℕ). laid at x s) parts ∙ laid-append at w (bytes_in (drop (from + 16) l)) s (omega arith) ∙ rw (part_laid, long))
+  pub piece_digits : all_digits l ≡ true → all_digits (get_or pieces i []) ≡ true
+  piece_digits e = rw piece (digits_part (16 * i) 16 l e)
 
--- ---- digits taken two by two
+  module _ (at : ℕ) (s w : List ℕ) (fits : at + 8 ≤ length s) (bytes : w ≡ bytes_in (get_or pieces i [])) where
+    eight_long : length w ≡ 8
+    eight_long = rw (bytes, piece, length_bytes, length-take-le 16 (drop (16 * i) l) (rw length-drop (omega arith))) refl
 
-abbrev pub Paired : List ℕ → List ℕ → ℕ → Type 0
-Paired digits pairs i = (j : ℕ) → j < i → (get_or pairs j 0 % 256 ≡ get_or digits (2 * j) 0) × (get_or pairs j 0 / 256 ≡ get_or digits (2 * j + 1) 0)
+    part_laid : put_mid at (at + 8 - at) s w ≡ laid at w s
+    unfolding laid
+    part_laid = let k : at + 8 - at ≡ 8 = omega arith in rw (k, eight_long, drop-drop 8 at s)
+
+    pub length_part : length (put_mid at (at + 8 - at) s w) ≡ length s
+    length_part = let n = eight_long in ap length part_laid ∙ length-laid at s w (omega arith)
+
+    pub laid_piece : laid (at + 8) (bytes_in (drop (16 * (i + 1)) l)) (put_mid at (at + 8 - at) s w) ≡ laid at (bytes_in (drop (16 * i) l)) s
+    laid_piece =
+        let n = eight_long in
+        let k : 16 * (i + 1) ≡ 16 * i + 16 = omega arith in
+        let some : 16 ≤ length (drop (16 * i) l) = rw length-drop (omega arith) in
+        let parts : bytes_in (drop (16 * i) l) ≡ w ++ bytes_in (drop (16 * i + 16) l) = rw (bytes, piece, ← drop-drop 16 (16 * i) l) (bytes_split 8 (drop (16 * i) l) some) in
+        rw k (sym (ap (λ (x : List ℕ). laid at x s) parts ∙ laid-append at w (bytes_in (drop (16 * i + 16) l)) s (omega arith) ∙ rw (part_laid, eight_long)))
+
+-- the pairs that are left after the whole pieces
+abbrev pub whole : List ℕ → ℕ
+whole l = 16 * (length l / 16)
+
+module _ (l left : List ℕ) (rest : left ≡ drop (length l / 16 * 16) l) (pairs : List (List ℕ)) (cut : pairs ≡ first_chunks 2 (length left / 2) left)
+    (j : ℕ) (here : j < length left / 2) where
+  inside : whole l + 2 * j + 1 < length l
+  inside = let n : length left ≡ length l - length l / 16 * 16 = rw rest (length-drop (length l / 16 * 16) l) in omega arith
+
+  of_pair : (k : ℕ) → k < 2 → get_or (get_or pairs j []) k 0 ≡ get_or l (whole l + 2 * j + k) 0
+  of_pair k less =
+      let e : length l / 16 * 16 ≡ whole l = omega arith in
+      rw (cut, piece_is 2 (length left / 2) j left [] here, get_or-take 2 (drop (2 * j) left) k 0 less, get_or-drop (2 * j) left k 0, rest, e, get_or-drop (whole l) l (2 * j + k) 0, add_assoc (whole l) (2 * j) k)
+
+  pub pair_digits : all_digits l ≡ true → (digit (get_or (get_or pairs j []) 0 0) < 16) × (digit (get_or (get_or pairs j []) 1 0) < 16)
+  pair_digits e =
+      let h = inside in
+      (rw (of_pair 0 (omega arith)) (digits_at l (whole l + 2 * j + 0) e (omega arith)), rw (of_pair 1 (omega arith)) (digits_at l (whole l + 2 * j + 1) e (omega arith)))
+
+  pub laid_left : (at b : ℕ) (s : List ℕ) → at < length s → b ≡ 16 * digit (get_or (get_or pairs j []) 0 0) + digit (get_or (get_or pairs j []) 1 0) →
+      laid (at + 1) (bytes_in (drop (whole l + 2 * (j + 1)) l)) (set s at b) ≡ laid at (bytes_in (drop (whole l + 2 * j) l)) s
+  laid_left at b s fits e =
+      let n : whole l + 2 * (j + 1) ≡ whole l + 2 * j + 2 = omega arith in
+      let m : whole l + 2 * j + 0 ≡ whole l + 2 * j = omega arith in
+      rw n (laid_next at (whole l + 2 * j) l s b inside fits (e ∙ rw (of_pair 0 (omega arith), of_pair 1 (omega arith), m)))
+
+-- ---- eight bytes as a number, the highest first
+
+abbrev worth : ℕ → List ℕ → ℕ
+worth x [] = x
+worth x (b ∷ bs) = worth (256 * x + b) bs
+
+numeral_worth : (n x : ℕ) (l : List ℕ) → length l ≡ n + n → numeral x l ≡ worth x (bytes_in l)
+unfolding numeral bytes_in
+numeral_worth zero x [] h = refl
+numeral_worth zero x (a ∷ l) h = absurd (omega arith)
+numeral_worth (suc n) x [] h = absurd (omega arith)
+numeral_worth (suc n) x (a ∷ []) h = absurd (omega arith)
+numeral_worth (suc n) x (a ∷ b ∷ l) h =
+    let e : 16 * (16 * x + digit a) + digit b ≡ 256 * x + (16 * digit a + digit b) = omega arith in
+    rw e (numeral_worth n (256 * x + (16 * digit a + digit b)) l (omega arith))
+
+eight_worth : (l : List ℕ) → length l ≡ 8 → from_be_bytes w64 l ≡ worth 0 l
+eight_worth (a ∷ b ∷ c ∷ d ∷ e ∷ f ∷ g ∷ h ∷ []) n = omega arith
+eight_worth l n = absurd (omega arith)
+
+pub number_of : (l : List ℕ) → length l ≡ 16 → from_be_bytes w64 (bytes_in l) ≡ numeral 0 l
+number_of l h = eight_worth (bytes_in l) (rw (length_bytes, h) refl) ∙ sym (numeral_worth 8 0 l h)
 
 -- ---- what the functions' goals ask, by function
 
--- `digits_end`
-pub ruleset digits_before = (digit_here, no_digit_here, no_digits_here)
-
--- `kind_of`
-pub ruleset frame_parts = (no_frame, kind_is, length_body, digits_at)
-
--- `number`
-pub ruleset numerals = (digits_at, numeral_next, numeral_done, digits_room, digit_room)
-
 -- `eight`
 pub ruleset eight_bytes = (digits_at, laid_whole, length_bytes, laid_pair, laid_done)
-
--- `append`
-pub ruleset bytes_laid = (digits_part, digits_at, piece_length, length_part, laid_eight, laid_next, laid_done)

@@ -2,14 +2,17 @@
 use Prim.Native.Nat.{ℕ}
 use native.Mathlib.Omega.{arith}
 use mathlib.Core.List.{List, ◌++◌}
-use mathlib.Core.Path.{◌≡◌, sym, ap, ◌∙◌}
+use mathlib.Core.Path.{◌≡◌, refl, sym, ap, ◌∙◌}
 use lib.ListN.{length, take, drop, take-append-drop}
 use lib.Seq.{length-take-le}
+use Rattle.std.specs.Prelude.{Result, Ok, Err}
 use Rattle.meaning.specs.Call.{card64}
-use Rattle.meaning.specs.Checks.{section_limit, values_limit}
-use Rattle.meaning.specs.Frames.{Reading}
+use Rattle.meaning.specs.Checks.{Answer, section_limit, values_limit}
+use Rattle.meaning.specs.Frames.{Input, Reading}
+use Rattle.refusals.specs.Numbers.{number_unique, numbered}
 use Rattle.frames.specs.declared.Gathered.{Gathered}
-use Rattle.frames.specs.Gathered.{Filled}
+use Rattle.frames.specs.declared.Fault.{Fault}
+use Rattle.frames.specs.Gathered.{input_in, gathered_in, reading_in, Filled}
 use Rattle.frames.proofs.Reader.{Answered}
 
 -- a buffer is what was written to it, and the rest as it came
@@ -31,36 +34,45 @@ module _ (limit n m : ℕ) (came is is' : List ℕ) (f : Filled limit n came is)
       ∙ ap (λ (l : List ℕ). l ++ drop m is') e
       ∙ take-append-drop m is'
 
-module _ (input s₀ v₀ q₀ s v q s' v' q' : List ℕ) (r r' : Gathered) (a : Answered input s₀ v₀ q₀ s v q r) (b : Answered input s₀ v₀ q₀ s' v' q' r') where
+-- what was gathered, with or without a fault
+of_input : (r : Result Gathered Fault) (s v q : List ℕ) → (reading_in r s v q).input ≡ input_in (gathered_in r) s v q
+of_input (Ok got) s v q = refl
+of_input (Err fault) s v q = refl
+
+module _ (input s₀ v₀ q₀ s v q s' v' q' : List ℕ) (r r' : Result Gathered Fault) (a : Answered input s₀ v₀ q₀ s v q r) (b : Answered input s₀ v₀ q₀ s' v' q' r') where
+  inputs : input_in (gathered_in r) s v q ≡ input_in (gathered_in r') s' v' q'
+  inputs = sym (of_input r s v q) ∙ ap (λ (x : Reading). x.input) (a.is ∙ sym b.is) ∙ of_input r' s' v' q'
+
   pub same-section : s ≡ s'
-  same-section =
-      same_bytes section_limit r.section r'.section s₀ s s' a.section b.section (ap (λ (x : Reading). x.input.section) (a.is ∙ sym b.is))
+  same-section = same_bytes section_limit _ _ s₀ s s' a.section b.section (ap (λ (i : Input). i.section) inputs)
 
   pub same-values : v ≡ v'
-  same-values =
-      same_bytes values_limit r.values r'.values v₀ v v' a.values b.values (ap (λ (x : Reading). x.input.values) (a.is ∙ sym b.is))
+  same-values = same_bytes values_limit _ _ v₀ v v' a.values b.values (ap (λ (i : Input). i.values) inputs)
 
   pub same_records : q ≡ q'
-  same_records =
-      same_bytes card64.records_limit r.records r'.records q₀ q q' a.records b.records (ap (λ (x : Reading). x.input.records) (a.is ∙ sym b.is))
+  same_records = same_bytes card64.records_limit _ _ q₀ q q' a.records b.records (ap (λ (i : Input). i.records) inputs)
+
+  same_gathered : gathered_in r ≡ gathered_in r'
+  same_gathered =
+      built _ _ (ap (λ (i : Input). i.address) inputs) (ap (λ (i : Input). i.gp) inputs)
+      (same_count section_limit _ _ s₀ s s' a.section b.section (ap (λ (i : Input). i.section) inputs))
+      (same_count values_limit _ _ v₀ v v' a.values b.values (ap (λ (i : Input). i.values) inputs))
+      (same_count card64.records_limit _ _ q₀ q q' a.records b.records (ap (λ (i : Input). i.records) inputs))
+    where
+      built : (g h : Gathered) → g.address ≡ h.address → g.gp ≡ h.gp → g.section ≡ h.section → g.values ≡ h.values → g.records ≡ h.records →
+          record { address = g.address; gp = g.gp; section = g.section; values = g.values; records = g.records } ≡ h
+      built g h a b d e f = rw (a, b, d, e, f)
 
   pub same_answer : r ≡ r'
-  same_answer =
-      let e : ◌≡◌ {A = Reading} _ _ = a.is ∙ sym b.is in
-      let number : r.number ≡ r'.number = ap (λ (x : Reading). x.refusal.number) e in
-      let place : r.place ≡ r'.place = ap (λ (x : Reading). x.refusal.place) e in
-      let address : r.address ≡ r'.address = ap (λ (x : Reading). x.input.address) e in
-      let gp : r.gp ≡ r'.gp = ap (λ (x : Reading). x.input.gp) e in
-      let section : r.section ≡ r'.section =
-      same_count section_limit r.section r'.section s₀ s s' a.section b.section (ap (λ (x : Reading). x.input.section) e) in
-      let values : r.values ≡ r'.values =
-      same_count values_limit r.values r'.values v₀ v v' a.values b.values (ap (λ (x : Reading). x.input.values) e) in
-      let records : r.records ≡ r'.records =
-      same_count card64.records_limit r.records r'.records q₀ q q' a.records b.records (ap (λ (x : Reading). x.input.records) e) in
-      built number place address gp section values records
+  same_answer = go r r' (ap (λ (x : Reading). x.refusal) (a.is ∙ sym b.is)) same_gathered
     where
-      built : r.number ≡ r'.number → r.place ≡ r'.place → r.address ≡ r'.address → r.gp ≡ r'.gp → r.section ≡ r'.section →
-          r.values ≡ r'.values → r.records ≡ r'.records →
-          record { number = r.number; place = r.place; address = r.address; gp = r.gp; section = r.section; values = r.values; records = r.records }
-          ≡ r'
-      built a b d e f g h = rw (a, b, d, e, f, g, h)
+      built : (g h : Fault) → g.refused.refusal ≡ h.refused.refusal → g.refused.place ≡ h.refused.place → g.gathered ≡ h.gathered →
+          record { refused = record { refusal = g.refused.refusal; place = g.refused.place }; gathered = g.gathered } ≡ h
+      built g h a b d = rw (a, b, d)
+
+      go : (r r' : Result Gathered Fault) → (reading_in r s v q).refusal ≡ (reading_in r' s' v' q').refusal → gathered_in r ≡ gathered_in r' → r ≡ r'
+      go (Ok g) (Ok h) e f = ap Ok f
+      go (Ok g) (Err h) e f = absurd (numbered h.refused.refusal (sym (ap (λ (x : Answer). x.number) e)))
+      go (Err g) (Ok h) e f = absurd (numbered g.refused.refusal (ap (λ (x : Answer). x.number) e))
+      go (Err g) (Err h) e f =
+          ap Err (built g h (number_unique g.refused.refusal h.refused.refusal (ap (λ (x : Answer). x.number) e)) (ap (λ (x : Answer). x.place) e) f)

@@ -2,101 +2,90 @@
 
 #![tactic(auto)]
 
-ghost use Rattle.std.specs.Prelude.{true, cond, ◌&&◌, ◌≡◌, ◌+◌, ◌-◌, ◌*◌, ◌/◌, ◌%◌, ◌≤◌, ◌<◌, eqb, ltb, leb, length, take, drop};
+ghost use Rattle.std.specs.Prelude.{true, false, cond, ◌&&◌, ◌≡◌, ◌+◌, ◌-◌, ◌*◌, ◌/◌, ◌%◌, ◌≤◌, ◌<◌, eqb, ltb, length, take, drop, MatchResult};
+ghost use Rattle.std.specs.List.{prefix_len};
+ghost use Rattle.std.specs.Simd.{first_chunks};
 ghost use Rattle.meaning.specs.Call.{card64};
 ghost use Rattle.meaning.specs.Checks.{section_limit, values_limit};
 ghost use Rattle.meaning.specs.Frames as F;
-ghost use Rattle.frames.specs.Text.{line_length, digits_length, laid};
-ghost use Rattle.frames.specs.Gathered.{reading_in, Filled, refused_as, Within, over_in, own, gathered_with};
+ghost use Rattle.frames.specs.Text.{line_length, FirstLine, digits_length, IsFrame, laid};
+ghost use Rattle.frames.specs.Kinds.{kind_number, last_number, kind_numbered};
+ghost use Rattle.frames.specs.Gathered.{reading_in, gathered_in, Filled, Within, over_in, own, gathered_with};
 
+use refusals::{Refusal, Refused};
 use sizes::*;
 
 // The most section bytes of a frame.
 pub const LINE: usize = 64;
 
-fn within(b: u8, low: u8, high: u8) -> bool
-    ensures { result ≡ (leb low b && leb b high) }
-{
-    if b < low {
-        return false;
-    }
-    b <= high
-}
+// ---- a line
 
-// Whether a byte is a digit, of either letter case. No test waits for another, so that the compiler can make them on many bytes at once.
+// Whether a byte is a digit, of either letter case.
 #[tactic(auto, unfolding(meaning::specs::Frames::digit))]
 fn is_digit(b: u8) -> bool
     ensures { result ≡ ltb (F.digit b) 16 }
 {
-    within(b, 48, 57) | within(b, 65, 70) | within(b, 97, 102)
+    b.is_ascii_hexdigit()
 }
 
+// Whether sixteen bytes are digits. No test waits for another, so that the compiler can make them on all bytes at once.
 #[tactic(auto, using(crate::proofs::Laws::digits_next, crate::proofs::Laws::digits_end))]
-fn all_digits(piece: &[u8]) -> bool
+fn all_digits(piece: &[u8; 16]) -> bool
     ensures { result ≡ F.all_digits piece.now }
 {
     let mut all = true;
-    let mut i = 0;
-    while i < piece.len() {
-        all = all & is_digit(piece[i]);
-        i += 1;
+    for b in piece {
+        all &= is_digit(*b);
     }
     all
 }
 
-// How far whole pieces of sixteen bytes, from `at` on, are digits.
-#[tactic(auto, using(crate::proofs::Laws::sixteen_digits))]
-fn pieces_end(input: &[u8], at: usize) -> usize
-    requires { at ≤ length input.now }
-    ensures { (result ≤ length input.now)
-        × (at + digits_length (drop at input.now) ≡ result + digits_length (drop result input.now)) }
+// How many whole pieces of sixteen bytes are digits before the first that is not.
+fn whole_pieces(text: &[u8]) -> usize
+    ensures { result ≡ prefix_len F.all_digits (first_chunks 16 (length text.now / 16) text.now) }
 {
-    let mut end = at;
-    while end + 16 <= input.len() {
-        let next = end + 16;
-        if !all_digits(&input[end..next]) {
-            return end;
-        }
-        end = next;
-    }
-    end
+    let (pieces, _) = text.as_chunks::<16>();
+    pieces.iter().take_while(|piece| all_digits(piece)).count()
 }
 
-// Where the digits that stand from `at` on end.
-#[tactic(auto, using(crate::proofs::Laws::digits_before))]
-fn digits_end(input: &[u8], at: usize) -> usize
-    requires { at ≤ length input.now }
-    ensures { (result ≡ at + digits_length (drop at input.now)) × (result ≤ length input.now) }
+// How many bytes are digits before the first that is not.
+fn single_digits(text: &[u8]) -> usize
+    ensures { result ≡ prefix_len (λ b. ltb (F.digit b) 16) text.now }
 {
-    let mut end = pieces_end(input, at);
-    while end < input.len() {
-        if !is_digit(input[end]) {
-            return end;
-        }
-        end += 1;
-    }
-    end
+    text.iter().take_while(|b| is_digit(**b)).count()
 }
 
-// Whether a line ends at a place: a line feed stands there, or the input ends.
-#[tactic(auto, using(crate::proofs::Laws::feed_test, crate::proofs::Laws::no_line_here))]
-fn line_ends(input: &[u8], at: usize) -> bool
-    requires { at ≤ length input.now }
-    ensures { result ≡ eqb (line_length (drop at input.now)) 0 }
+// How many digits a text begins with.
+#[tactic(auto, using(crate::proofs::Laws::whole_and_single))]
+fn digits_len(text: &[u8]) -> usize
+    ensures { result ≡ digits_length text.now }
 {
-    if at < input.len() {
-        return input[at] == 10;
-    }
-    true
+    let whole = 16 * whole_pieces(text);
+    let (_, left) = text.split_at(whole);
+    whole + single_digits(left)
 }
 
-// The number that a digit stands for.
+// The line that a text begins with, and the text after its line feed. A bad line is one with a byte that is no digit.
+#[tactic(auto, using(crate::proofs::Laws::digits_inside))]
+fn first_line(text: &[u8]) -> Result<(&[u8], &[u8]), Refusal>
+    ensures { MatchResult result (λ p. FirstLine text.now p.0.now p.1.now)
+        (λ refusal. (refusal ≡ Refusal.BadLine) × (F.all_digits (take (line_length text.now) text.now) ≡ false)) }
+{
+    let (line, left) = text.split_at(digits_len(text));
+    match left {
+        [] => Ok((line, left)),
+        [b'\n', rest @ ..] => Ok((line, rest)),
+        _ => Err(Refusal::BadLine),
+    }
+}
+
+// The number that a digit stands for: 0 to 9 are 48 to 57, A to F are 65 to 70, a to f 97 to 102. Arithmetic, since `char::to_digit` keeps
+// the compiler from decoding eight bytes at once: with it the program takes 2.9 times the instructions, and with a match 2.4 times.
 #[tactic(auto, unfolding(meaning::specs::Frames::digit))]
 fn value(digit: u8) -> u8
     requires { F.digit digit < 16 }
     ensures { result ≡ F.digit digit }
 {
-    // 0 to 9 are 48 to 57; A to F are 65 to 70, a to f 97 to 102
     if digit < 64 {
         return digit % 16;
     }
@@ -111,156 +100,141 @@ fn byte(high: u8, low: u8) -> u8
     16 * value(high) + value(low)
 }
 
-// How many bytes a frame of each kind has.
-#[tactic(auto, unfolding(meaning::specs::Frames::sized))]
-fn sized(kind: u8, n: usize) -> bool
-    ensures { result ≡ F.sized kind n }
-{
-    if kind == 1 {
-        return n == 16;
-    }
-    if kind == 2 {
-        if 1 <= n {
-            return n <= LINE;
-        }
-        return false;
-    }
-    if kind == 3 {
-        return n == ROW;
-    }
-    if kind == 4 {
-        return n == RECORD;
-    }
-    false
-}
-
-// Which kind may come after the last one, which is 0 before the first frame.
-#[tactic(auto, unfolding(meaning::specs::Frames::follows))]
-fn follows(last: u8, kind: u8) -> bool
-    ensures { result ≡ F.follows last kind }
-{
-    if last == 0 {
-        return kind == 1;
-    }
-    if 2 <= kind {
-        return last <= kind;
-    }
-    false
-}
-
-// The kind of a line of digits that is a well-formed frame after one of kind `last`, and 0 for any other.
-#[tactic(auto, using(crate::proofs::Laws::frame_parts), unfolding(meaning::specs::Frames::well_formed))]
-fn kind_of(last: u8, line: &[u8]) -> u8
-    requires { F.all_digits line.now ≡ true }
-    ensures { result ≡ cond (F.well_formed last line.now) (F.kind line.now) 0 }
-{
-    let n = line.len();
-    if n % 2 != 0 {
-        return 0;
-    }
-    if n == 0 {
-        return 0;
-    }
-    let kind = byte(line[0], line[1]);
-    if !sized(kind, (n - 2) / 2) {
-        return 0;
-    }
-    if !follows(last, kind) {
-        return 0;
-    }
-    kind
-}
-
-// The number of the sixteen digits at `at`.
-#[tactic(auto, using(crate::proofs::Laws::numerals))]
-fn number(line: &[u8], at: usize) -> u64
-    requires at_in_bounds { at + 16 ≤ length line.now }
-    requires all_digits { F.all_digits line.now ≡ true }
-    ensures { result ≡ F.numeral 0 (take 16 (drop at line.now)) }
-{
-    let mut x: u64 = 0;
-    let mut i = 0;
-    while i < 16 {
-        x = 16 * x + value(line[at + i]) as u64;
-        i += 1;
-    }
-    x
-}
-
-// Two digits as one number, and the byte that they stand for.
-fn pair(first: u8, second: u8) -> u16
-    ensures { result ≡ first + 256 * second }
-{
-    first as u16 + 256 * (second as u16)
-}
-
-fn byte_of(pair: u16) -> u8
-    requires { (F.digit (pair % 256) < 16) × (F.digit (pair / 256) < 16) }
-    ensures { result ≡ 16 * F.digit (pair % 256) + F.digit (pair / 256) }
-{
-    byte((pair % 256) as u8, (pair / 256) as u8)
-}
-
-// The eight bytes of sixteen digits. The digits are first taken two by two, so that the compiler can decode all eight at once.
+// The eight bytes of sixteen digits. `hex::decode_to_slice` would test each digit again, one after the other: it takes 24 instructions a
+// byte, and this 3. That they are digits is a clause here and below, and no type: `as_chunks` cuts pieces of bare bytes.
 #[tactic(auto, using(crate::proofs::Laws::eight_bytes))]
-fn eight(digits: &[u8], bytes: &mut [u8])
-    requires digits_len { (length digits.now ≡ 16) × (length bytes.old ≡ 8) }
+fn eight(digits: &[u8; 16]) -> [u8; 8]
+    requires { F.all_digits digits.now ≡ true }
+    ensures { result ≡ F.bytes_in digits.now }
+{
+    let mut bytes = [0; 8];
+    for i in 0..8 {
+        bytes[i] = byte(digits[2 * i], digits[2 * i + 1]);
+    }
+    bytes
+}
+
+// The number of sixteen digits.
+fn number(digits: &[u8; 16]) -> u64
+    requires { F.all_digits digits.now ≡ true }
+    ensures { result ≡ F.numeral 0 digits.now }
+{
+    u64::from_be_bytes(eight(digits))
+}
+
+// Lays the bytes of digits into a buffer, from `used` on, and answers how many are used with them. Where the next one goes is counted along:
+// by `enumerate` the program takes 6 % more instructions on frames of one byte, and so 12 % more than it did with index loops.
+fn append(buffer: &mut [u8], used: usize, digits: &[u8]) -> usize
     requires all_digits { F.all_digits digits.now ≡ true }
-    ensures { bytes.new ≡ F.bytes_in digits.now }
+    requires room { used + length digits.now / 2 ≤ length buffer.old }
+    ensures bytes { buffer.new ≡ laid used (F.bytes_in digits.now) buffer.old }
+    ensures count { result ≡ used + length digits.now / 2 }
 {
-    let mut pairs = [0u16; 8];
-    let mut i = 0;
-    while i < 8 {
-        pairs[i] = pair(digits[2 * i], digits[2 * i + 1]);
-        i += 1;
+    let (pieces, left) = digits.as_chunks::<16>();
+    let mut end = used;
+    for piece in pieces {
+        buffer[end..end + 8].copy_from_slice(&eight(piece));
+        end += 8;
     }
-    let mut k = 0;
-    while k < 8 {
-        bytes[k] = byte_of(pairs[k]);
-        k += 1;
+    let (pairs, _) = left.as_chunks::<2>();
+    for pair in pairs {
+        buffer[end] = byte(pair[0], pair[1]);
+        end += 1;
+    }
+    end
+}
+
+// ---- a frame
+
+// The kinds of frames, in the order in which they come.
+#[derive(Clone, Copy, Debug, PartialEq, Eq, PartialOrd, Ord)]
+enum Kind {
+    Numbers,
+    Section,
+    Row,
+    Record,
+}
+
+impl TryFrom<u8> for Kind {
+    type Error = Refusal;
+
+    ghost try_from_gives = { λ n kind. kind ≡ kind_numbered n };
+
+    fn try_from(number: u8) -> Result<Kind, Refusal> {
+        match number {
+            1 => Ok(Kind::Numbers),
+            2 => Ok(Kind::Section),
+            3 => Ok(Kind::Row),
+            4 => Ok(Kind::Record),
+            _ => Err(Refusal::BadLine),
+        }
     }
 }
 
-// Lays the bytes of a frame into a buffer, from `used` on.
-#[tactic(auto, using(crate::proofs::Laws::bytes_laid))]
-fn append(buffer: &mut [u8], used: usize, line: &[u8])
-    requires in_bounds { 2 ≤ length line.now }
-    requires all_digits { F.all_digits line.now ≡ true }
-    requires room { used + (length line.now - 2) / 2 ≤ length buffer.old }
-    ensures { buffer.new ≡ laid used (F.body line.now) buffer.old }
-{
-    let mut at = used;
-    let mut from = 2;
-    while from + 16 <= line.len() {
-        let next = from + 16;
-        let end = at + 8;
-        eight(&line[from..next], &mut buffer[at..end]);
-        at = end;
-        from = next;
+impl Kind {
+    // How many bytes a frame of each kind has.
+    #[tactic(auto, unfolding(meaning::specs::Frames::sized))]
+    fn has_size(self, n: usize) -> bool
+        ensures { result ≡ F.sized (kind_number self) n }
+    {
+        match self {
+            Kind::Numbers => n == 16,
+            Kind::Section => 1 <= n && n <= LINE,
+            Kind::Row => n == ROW,
+            Kind::Record => n == RECORD,
+        }
     }
-    while from + 1 < line.len() {
-        buffer[at] = byte(line[from], line[from + 1]);
-        at += 1;
-        from += 2;
+
+    // Whether a frame of this kind may come after the last one: one of numbers first, and from then on kinds never fall.
+    #[tactic(auto, unfolding(meaning::specs::Frames::follows))]
+    fn may_follow(self, last: Option<Kind>) -> bool
+        ensures { result ≡ F.follows (last_number last) (kind_number self) }
+    {
+        match last {
+            None => self == Kind::Numbers,
+            Some(last) => self != Kind::Numbers && last <= self,
+        }
+    }
+
+    // Whether n digits after a kind's own two make a frame of it, after one of kind `last`. The size is tested last: what comes after it goes
+    // by the kind again, and so the compiler branches once on it.
+    fn makes_frame(self, n: usize, last: Option<Kind>) -> bool
+        ensures { result ≡ ((eqb (n % 2) 0 && F.follows (last_number last) (kind_number self)) && F.sized (kind_number self) (n / 2)) }
+    {
+        n % 2 == 0 && self.may_follow(last) && self.has_size(n / 2)
     }
 }
 
-// Whether a frame of n bytes takes a buffer past its limit, which only one of the buffer's own kind can.
-fn past(kind: u8, own: u8, used: usize, n: usize, limit: usize) -> bool
-    requires { used ≤ limit }
-    ensures { result ≡ ltb limit (used + cond (eqb kind own) n 0) }
-{
-    if kind == own {
-        return limit - used < n;
-    }
-    false
-}
-
-// What was read: the number of a refusal and its place, or 0; the two numbers; and how many bytes each buffer holds.
+// A well-formed frame: its kind, and the digits of its bytes, two to a byte.
 #[derive(Clone, Copy)]
+struct Frame<'a> {
+    kind: Kind,
+    digits: &'a [u8],
+    ghost all_digits: { F.all_digits digits.now ≡ true },
+    ghost sized: { F.sized (kind_number kind) (length digits.now / 2) ≡ true },
+}
+
+impl<'a> Frame<'a> {
+    // A line of digits as the frame that it is after one of kind `last`.
+    fn in_line(line: &'a [u8], last: Option<Kind>) -> Result<Frame<'a>, Refusal>
+        requires { F.all_digits line.now ≡ true }
+        ensures { MatchResult result (λ frame. IsFrame (last_number last) line.now (kind_number frame.kind) frame.digits.now)
+            (λ refusal. (refusal ≡ Refusal.BadLine) × (F.well_formed (last_number last) line.now ≡ false)) }
+    {
+        let [high, low, digits @ ..] = line else {
+            return Err(Refusal::BadLine);
+        };
+        let kind = Kind::try_from(byte(*high, *low))?;
+        if !kind.makes_frame(digits.len(), last) {
+            return Err(Refusal::BadLine);
+        }
+        Ok(Frame { kind, digits })
+    }
+}
+
+// What was read: the two numbers, and how many bytes each buffer holds.
+#[derive(Clone, Copy, Debug, Default, PartialEq, Eq)]
 pub struct Gathered {
-    pub number: u32,
-    pub place: u32,
     pub address: u64,
     pub gp: u64,
     pub section: usize,
@@ -268,127 +242,114 @@ pub struct Gathered {
     pub records: usize,
 }
 
+// Why reading stopped, and what was read before.
+#[derive(Clone, Copy, Debug, PartialEq, Eq)]
+pub struct Fault {
+    pub refused: Refused,
+    pub gathered: Gathered,
+}
+
 impl Gathered {
-    // The place of the first buffer that a frame of n bytes takes past its limit, and 3 for none.
-    fn over(self, kind: u8, n: usize) -> u32
+    // The place of the buffer that a frame takes past its limit, which only its own can be.
+    fn over(self, frame: Frame) -> Option<u32>
         requires { Within self.section self.values self.records }
-        ensures { result ≡ over_in (self.section + cond (eqb kind 2) n 0) (self.values + cond (eqb kind 3) n 0)
-            (self.records + cond (eqb kind 4) n 0) }
+        ensures { let n = length frame.entry.digits.now / 2 in let k = kind_number frame.entry.kind in
+            result ≡ over_in (self.section + cond (eqb k 2) n 0) (self.values + cond (eqb k 3) n 0) (self.records + cond (eqb k 4) n 0) }
     {
-        if past(kind, 2, self.section, n, SECTION_LIMIT) {
-            return 0;
+        let n = frame.digits.len() / 2;
+        match frame.kind {
+            Kind::Numbers => None,
+            Kind::Section => (SECTION_LIMIT - self.section < n).then_some(0),
+            Kind::Record => (RECORDS_LIMIT - self.records < n).then_some(1),
+            Kind::Row => (VALUES_LIMIT - self.values < n).then_some(2),
         }
-        if past(kind, 4, self.records, n, RECORDS_LIMIT) {
-            return 1;
-        }
-        if past(kind, 3, self.values, n, VALUES_LIMIT) {
-            return 2;
-        }
-        3
     }
 
-    fn refused(self, number: u32, place: u32) -> Self
-        ensures { result ≡ refused_as number place self }
+    fn fault(self, refusal: Refusal, place: u32) -> Fault
+        ensures { result ≡ record { refused = record { refusal = refusal; place = place }; gathered = self } }
     {
-        Self {
-            number,
-            place,
-            address: self.address,
-            gp: self.gp,
-            section: self.section,
-            values: self.values,
-            records: self.records,
+        Fault {
+            refused: Refused { refusal, place },
+            gathered: self,
         }
     }
 }
 
-// Gathers a frame: the two numbers of kind 1, or the bytes of any other, laid into the one buffer that its kind names.
+// Gathers a frame: its two numbers, or its bytes, laid into the one buffer that its kind names.
 #[tactic(auto, using(crate::proofs::Laws::laid_none), unfolding(meaning::specs::Frames::sized))]
 fn gather(
     got: Gathered,
-    kind: u8,
-    line: &[u8],
+    frame: Frame,
     section: &mut [u8],
     values: &mut [u8],
     records: &mut [u8],
 ) -> Gathered
-    requires all_digits { F.all_digits line.now ≡ true }
-    requires sized { F.sized kind ((length line.now - 2) / 2) ≡ true }
-    requires section_room { got.section + cond (eqb kind 2) ((length line.now - 2) / 2) 0 ≤ length section.old }
-    requires values_room { got.values + cond (eqb kind 3) ((length line.now - 2) / 2) 0 ≤ length values.old }
-    requires records_room { got.records + cond (eqb kind 4) ((length line.now - 2) / 2) 0 ≤ length records.old }
-    ensures value { result ≡ gathered_with kind line.now got }
-    ensures section_after { section.new ≡ laid got.section (own kind 2 line.now) section.old }
-    ensures values_after { values.new ≡ laid got.values (own kind 3 line.now) values.old }
-    ensures records_after { records.new ≡ laid got.records (own kind 4 line.now) records.old }
+    requires section_room { got.section + cond (eqb (kind_number frame.kind) 2) (length frame.digits.now / 2) 0 ≤ length section.old }
+    requires values_room { got.values + cond (eqb (kind_number frame.kind) 3) (length frame.digits.now / 2) 0 ≤ length values.old }
+    requires records_room { got.records + cond (eqb (kind_number frame.kind) 4) (length frame.digits.now / 2) 0 ≤ length records.old }
+    ensures value { result ≡ gathered_with (kind_number frame.entry.kind) frame.entry.digits.now got }
+    ensures section_after { section.new ≡ laid got.section (own (kind_number frame.entry.kind) 2 frame.entry.digits.now) section.old }
+    ensures values_after { values.new ≡ laid got.values (own (kind_number frame.entry.kind) 3 frame.entry.digits.now) values.old }
+    ensures records_after { records.new ≡ laid got.records (own (kind_number frame.entry.kind) 4 frame.entry.digits.now) records.old }
 {
-    let n = (line.len() - 2) / 2;
-    let mut more = got;
-    if kind == 1 {
-        more.address = number(line, 2);
-        more.gp = number(line, 18);
-        return more;
+    match frame.kind {
+        Kind::Numbers => {
+            let (numbers, _) = frame.digits.as_chunks::<16>();
+            Gathered {
+                address: number(&numbers[0]),
+                gp: number(&numbers[1]),
+                ..got
+            }
+        }
+        Kind::Section => Gathered {
+            section: append(section, got.section, frame.digits),
+            ..got
+        },
+        Kind::Row => Gathered {
+            values: append(values, got.values, frame.digits),
+            ..got
+        },
+        Kind::Record => Gathered {
+            records: append(records, got.records, frame.digits),
+            ..got
+        },
     }
-    if kind == 2 {
-        append(section, got.section, line);
-        more.section = got.section + n;
-        return more;
-    }
-    if kind == 3 {
-        append(values, got.values, line);
-        more.values = got.values + n;
-        return more;
-    }
-    append(records, got.records, line);
-    more.records = got.records + n;
-    more
 }
 
 // Reads all frames into the three buffers, line by line up to the first fault. The bytes past those counted stay as they came.
-pub fn read(input: &[u8], section: &mut [u8], values: &mut [u8], records: &mut [u8]) -> Gathered
+pub fn read(
+    input: &[u8],
+    section: &mut [u8],
+    values: &mut [u8],
+    records: &mut [u8],
+) -> Result<Gathered, Fault>
     requires section_len { length section.old ≡ section_limit }
     requires values_len { length values.old ≡ values_limit }
     requires records_len { length records.old ≡ card64.records_limit }
     ensures reading { reading_in result section.new values.new records.new ≡ F.reading_of input.now }
-    ensures section_filled { Filled section_limit result.section section.old section.new }
-    ensures values_filled { Filled values_limit result.values values.old values.new }
-    ensures records_filled { Filled card64.records_limit result.records records.old records.new }
+    ensures section_filled { Filled section_limit (gathered_in result).section section.old section.new }
+    ensures values_filled { Filled values_limit (gathered_in result).values values.old values.new }
+    ensures records_filled { Filled card64.records_limit (gathered_in result).records records.old records.new }
 {
-    let mut got = Gathered {
-        number: 0,
-        place: 0,
-        address: 0,
-        gp: 0,
-        section: 0,
-        values: 0,
-        records: 0,
-    };
-    let mut last: u8 = 0;
+    let mut got = Gathered::default();
+    let mut last = None;
     let mut lines: u32 = 0;
-    let mut at = 0;
-    while at < input.len() {
-        let end = digits_end(input, at);
-        if !line_ends(input, end) {
-            return got.refused(17, lines);
-        }
-        let line = &input[at..end];
-        let kind = kind_of(last, line);
-        if kind == 0 {
-            return got.refused(17, lines);
-        }
-        let over = got.over(kind, (line.len() - 2) / 2);
-        if over < 3 {
-            return got.refused(1, over);
+    let mut left = input;
+    while !left.is_empty() {
+        let fault = |refusal| got.fault(refusal, lines);
+        let (line, rest) = first_line(left).map_err(fault)?;
+        let frame = Frame::in_line(line, last).map_err(fault)?;
+        if let Some(place) = got.over(frame) {
+            return Err(got.fault(Refusal::TooLong, place));
         }
         // only now is any of its bytes stored
-        let more = gather(got, kind, line, section, values, records);
-        got = more;
-        last = kind;
+        got = gather(got, frame, section, values, records);
+        last = Some(frame.kind);
         lines += 1;
-        at = end + 1;
+        left = rest;
     }
-    if last == 0 {
-        return got.refused(17, lines);
+    match last {
+        None => Err(got.fault(Refusal::BadLine, lines)),
+        Some(_) => Ok(got),
     }
-    got
 }

@@ -1,19 +1,17 @@
 -- The contracts determine the result: two results that one allows, for the same input, are equal, in number, place, offset, value, every byte
 -- of the section and every register. (The other buffers are only read.)
-use Rattle.std.specs.Prelude.{ℕ, List, ◌≡◌, refl}
-use Rattle.std.proofs.Common.{sym, ap, ◌∙◌}
+use Rattle.std.specs.Prelude.{ℕ, List, ◌≡◌, refl, ℤ, Result, Ok, Err}
+use Rattle.std.proofs.Common.{sym, ap, ap₂, ◌∙◌}
 use Rattle.meaning.specs.Checks as C
 use Rattle.meaning.specs.ReadBack as M
 use Rattle.meaning.specs.Executor as E
-use Rattle.patch.specs.declared.Answer.{Answer}
-use Rattle.patch.specs.declared.Answer.TheVariants.{Patched, Refused}
-use Rattle.patch.specs.Answers.{Answers, Patches}
-use Rattle.back.specs.declared.Immediate.{Immediate}
-use Rattle.back.specs.declared.Immediate.TheVariants.{Value, Refused as No}
-use Rattle.back.specs.Immediates.{ReadsBack}
-use Rattle.executor.specs.declared.Ran.{Ran}
-use Rattle.executor.specs.declared.Ran.TheVariants.{Ended, Refused as Stopped}
-use Rattle.executor.specs.Runs.{Runs}
+use Rattle.patch.specs.declared.Fault.{Fault}
+use Rattle.patch.specs.Answers.{answer_in, Patches}
+use Rattle.refusals.specs.declared.Refusal.{Refusal}
+use Rattle.refusals.specs.declared.Refused.{Refused}
+use Rattle.refusals.specs.Numbers.{numbered, number_unique}
+use Rattle.back.specs.Immediates.{immediate_in, ReadsBack}
+use Rattle.executor.specs.Runs.{ran_in, Runs}
 use Rattle.rofteluvi.specs.declared.RofteluviAnswer.{RofteluviAnswer}
 use Rattle.rofteluvi.specs.declared.RofteluviImmediate.{RofteluviImmediate}
 use Rattle.rofteluvi.specs.declared.RofteluviRan.{RofteluviRan}
@@ -25,18 +23,37 @@ use Rattle.executor.proofs.run.Reads as run
 use Rattle.rofteluvi.proofs.rofteluvi_read_back.Reads as rofteluvi-read-back
 use Rattle.rofteluvi.proofs.rofteluvi_run.Reads as rofteluvi-run
 
--- one answer by document 01's numbers, one answer of the code
-answer_unique : (q r : Answer) {a : C.Answer} → Answers q a → Answers r a → q ≡ r
-answer_unique (Patched m) (Patched n) x y = ap (λ (b : C.Answer). Patched b.place) (x.says ∙ sym y.says)
-answer_unique (Patched m) (Refused n p o) x y = absurd (y.proper (ap (λ (b : C.Answer). b.number) (y.says ∙ sym x.says)))
-answer_unique (Refused m p o) (Patched n) x y = absurd (x.proper (ap (λ (b : C.Answer). b.number) (x.says ∙ sym y.says)))
-answer_unique (Refused l m n) (Refused o p q) x y = ap (λ (b : C.Answer). Refused b.number b.place b.offset) (x.says ∙ sym y.says)
+-- ---- one answer by document 01's or 02's numbers, one answer of the code
+
+answer_unique : (q r : Result ℕ Fault) → answer_in q ≡ answer_in r → q ≡ r
+answer_unique (Ok m) (Ok n) e = ap (λ (a : C.Answer). Ok a.place) e
+answer_unique (Ok m) (Err g) e = absurd (numbered g.refusal (ap (λ (a : C.Answer). a.number) (sym e)))
+answer_unique (Err f) (Ok n) e = absurd (numbered f.refusal (ap (λ (a : C.Answer). a.number) e))
+answer_unique (Err f) (Err g) e =
+    ap₂ (λ (r : Refusal) (a : C.Answer). Err (record { refusal = r; place = a.place; offset = a.offset }))
+    (number_unique f.refusal g.refusal (ap (λ (a : C.Answer). a.number) e)) e
+
+immediate_unique : (q r : Result ℤ Refusal) → immediate_in q ≡ immediate_in r → q ≡ r
+immediate_unique (Ok y) (Ok z) e = ap (λ (i : M.Immediate). Ok i.value) e
+immediate_unique (Ok y) (Err s) e = absurd (numbered s (ap (λ (i : M.Immediate). i.number) (sym e)))
+immediate_unique (Err r) (Ok z) e = absurd (numbered r (ap (λ (i : M.Immediate). i.number) e))
+immediate_unique (Err r) (Err s) e = ap (λ (x : Refusal). Err x) (number_unique r s (ap (λ (i : M.Immediate). i.number) e))
+
+ran_unique : (q r : Result ℕ Refused) (s t : List ℕ) → ran_in q s ≡ ran_in r t → (q ≡ r) × (s ≡ t)
+ran_unique (Ok m) (Ok n) s t e = (ap (λ (x : E.Ran). Ok x.place) e, ap (λ (x : E.Ran). x.registers) e)
+ran_unique (Ok m) (Err g) s t e = absurd (numbered g.refusal (ap (λ (x : E.Ran). x.number) (sym e)))
+ran_unique (Err f) (Ok n) s t e = absurd (numbered f.refusal (ap (λ (x : E.Ran). x.number) e))
+ran_unique (Err f) (Err g) s t e = (
+  ap₂ (λ (r : Refusal) (x : E.Ran). Err (record { refusal = r; place = x.place }))
+      (number_unique f.refusal g.refusal (ap (λ (x : E.Ran). x.number) e)) e,
+  ap (λ (x : E.Ran). x.registers) e,
+)
 
 module _ (section records values : List ℕ) (address gp : ℕ) where
   -- patch, called from Rattle
-  pub patch_unique : (q r : Answer) (s t : List ℕ) → Patches section records values address gp q s → Patches section records values address gp r t →
+  pub patch_unique : (q r : Result ℕ Fault) (s t : List ℕ) → Patches section records values address gp q s → Patches section records values address gp r t →
       (q ≡ r) × (s ≡ t)
-  patch_unique q r s t x y = (answer_unique q r x.answers y.answers, x.leaves ∙ sym y.leaves)
+  patch_unique q r s t x y = (answer_unique q r (x.answers ∙ sym y.answers), x.leaves ∙ sym y.leaves)
 
   -- rofteluvi_patch, called from C
   pub rofteluvi_patch_unique : (q r : RofteluviAnswer) (s t : List ℕ) → Face.Patches section records values address gp q s →
@@ -46,11 +63,8 @@ module _ (section records values : List ℕ) (address gp : ℕ) where
 
 module _ (section : List ℕ) (address offset type : ℕ) where
   -- read back, called from Rattle and from C
-  pub read_back_unique : (q r : Immediate) → ReadsBack section address offset type q → ReadsBack section address offset type r → q ≡ r
-  read_back_unique (Value y) (Value z) a b = ap (λ (i : M.Immediate). Value i.value) (a.says ∙ sym b.says)
-  read_back_unique (Value y) (No n) a b = absurd (b.proper (ap (λ (i : M.Immediate). i.number) (b.says ∙ sym a.says)))
-  read_back_unique (No n) (Value z) a b = absurd (a.proper (ap (λ (i : M.Immediate). i.number) (a.says ∙ sym b.says)))
-  read_back_unique (No m) (No n) a b = ap (λ (i : M.Immediate). No i.number) (a.says ∙ sym b.says)
+  pub read_back_unique : (q r : Result ℤ Refusal) → ReadsBack section address offset type q → ReadsBack section address offset type r → q ≡ r
+  read_back_unique q r a b = immediate_unique q r (a.says ∙ sym b.says)
 
   pub rofteluvi_read_back_unique : (q r : RofteluviImmediate) → Face.ReadsBack section address offset type q →
       Face.ReadsBack section address offset type r → q ≡ r
@@ -59,13 +73,8 @@ module _ (section : List ℕ) (address offset type : ℕ) where
 
 module _ (words : List ℕ) (start : ℕ) (registers : List ℕ) where
   -- run, called from Rattle and from C
-  pub run_unique : (q r : Ran) (s t : List ℕ) → Runs words start registers q s → Runs words start registers r t → (q ≡ r) × (s ≡ t)
-  run_unique (Ended m) (Ended n) s t a b =
-      let e = a.says ∙ sym b.says in (ap (λ (x : E.Ran). Ended x.place) e, ap (λ (x : E.Ran). x.registers) e)
-  run_unique (Ended m) (Stopped n p) s t a b = absurd (b.proper (ap (λ (x : E.Ran). x.number) (b.says ∙ sym a.says)))
-  run_unique (Stopped n p) (Ended m) s t a b = absurd (a.proper (ap (λ (x : E.Ran). x.number) (a.says ∙ sym b.says)))
-  run_unique (Stopped n p) (Stopped m q) s t a b =
-      let e = a.says ∙ sym b.says in (ap (λ (x : E.Ran). Stopped x.number x.place) e, ap (λ (x : E.Ran). x.registers) e)
+  pub run_unique : (q r : Result ℕ Refused) (s t : List ℕ) → Runs words start registers q s → Runs words start registers r t → (q ≡ r) × (s ≡ t)
+  run_unique q r s t a b = ran_unique q r s t (a.says ∙ sym b.says)
 
   pub rofteluvi_run_unique : (q r : RofteluviRan) (s t : List ℕ) → Face.Runs words start registers q s → Face.Runs words start registers r t →
       (q ≡ r) × (s ≡ t)

@@ -3,6 +3,7 @@ use Rattle.std.specs.Prelude.{ℕ, zero, suc, ◌+◌, ◌-◌, ◌*◌, ◌/◌
 use Rattle.std.proofs.Common.{add_comm, mul-zero, mul-suc, le_of_suc-le-suc, not-suc-le-zero, arith, sym, ap, ◌∙◌, length-drop, drop-drop, length-take-le}
 use Rattle.std.proofs.Math.Nat.{sub-zero, sub_self}
 use Rattle.std.proofs.lemmas.List.{length-map}
+use Rattle.std.specs.Simd.{first_chunks}
 use Rattle.meaning.specs.Numbers.{cut, pieces}
 use Rattle.meaning.specs.Call.{Call, record_of, records_of}
 
@@ -28,6 +29,12 @@ from_next size s n i h =
 pub from_end : (size : ℕ) (s : List ℕ) (n : ℕ) → pieces_from size s n n ≡ []
 unfolding cut
 from_end size s n = rw sub_self
+
+-- the library's chunks are the pieces
+pub chunks_cut : (size n : ℕ) (s : List ℕ) → first_chunks size n s ≡ cut size n s
+unfolding cut
+chunks_cut size zero s = refl
+chunks_cut size (suc n) s = ap (λ (t : List (List ℕ)). take size s ∷ t) (chunks_cut size n (drop size s))
 
 -- the piece of a number, out of the list
 pub piece-at : (size : ℕ) (s : List ℕ) (n k : ℕ) (none : List ℕ) → k < n → get_or (cut size n s) k none ≡ piece size s k

@@ -2,6 +2,7 @@
 use Rattle.std.proofs.Common.{◌≡◌, ℕ, suc, ◌+◌, ◌-◌, ◌*◌, ◌/◌, ◌%◌, ◌^◌, ◌<◌, ◌≤◌, Bool, true, false, ltb, pos, negsuc, sym, refl, ap, ◌∙◌, mul-le-mul_right, add-mul, mul-lt-mul_of_pos_right, arith, pow_pos, pow-add, shl_exact, ltb-false, ltb-true, le-ltb, lt-ltb}
 use lib.Pow.{ones_lt, shl-shr, high}
 use lib.Signed.{shr_z}
+use mir.ValLaws.{to_z-of_z}
 use Rattle.meaning.specs.Numbers.{signed}
 
 -- With k bits below them they are 64; then the sign is the top bit, and what is shifted in below goes out again.
@@ -33,3 +34,6 @@ module _ (k n x : ℕ) (all : n + k ≡ 64) (some : 1 ≤ n) (small : x < 2 ^ n)
           let high_up : 2 ^ 63 ≤ x * 2 ^ k = rw half (mul-le-mul_right (2 ^ k) (ltb-false x (2 ^ (n - 1)) e)) in
           rw (le-ltb (x * 2 ^ k) (2 ^ 63) high_up, e)
           (ap negsuc (ap (λ (y : ℕ). y / 2 ^ k) left ∙ high (2 ^ n - suc x) k (ones_lt k)))
+
+-- of a number that the code has as its bits
+pub ruleset narrow = (up_and_down, to_z-of_z)

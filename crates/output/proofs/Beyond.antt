@@ -7,6 +7,7 @@ use mathlib.Core.Bool.{Bool, true, false, cond}
 use mathlib.Core.List.{List, [], ◌∷◌, ◌++◌}
 use mathlib.Core.Logic.{◌⊎◌, inl, inr, ⊎_elim}
 use mathlib.Core.Path.{◌≡◌, refl, sym, ap, ◌∙◌}
+use Rattle.std.specs.Prelude.{Option, Some, None}
 use borrow.Author.Tests.{ltb-true, ltb-false}
 use lib.Dec.{eqb, ltb}
 use lib.ListN.{length, take, drop, length-append, length-drop}
@@ -16,20 +17,11 @@ use Rattle.meaning.specs.Checks.{answer, section_limit, values_limit}
 use Rattle.meaning.specs.Frames.{lines_of, kind, body, well_formed, Input, nothing, added, reading, reading_of, output_for, output_of}
 use Rattle.frames.specs.Text.{line_length}
 use Rattle.frames.specs.Gathered.{Within}
-use Rattle.frames.proofs.Laws.{first-line}
-use Rattle.frames.proofs.Reader.{Sizes, one, two, three, four, bounds, Frame, frame, past, bad_line, good_line, length-own, within}
+use Rattle.frames.proofs.Laws.{first-line, line_inside}
+use Rattle.frames.proofs.Reader.{Sizes, one, two, three, four, bounds, Frame, frame, past, unless, bad_line, good_line, length-own, within}
 use Rattle.output.specs.Text.{line_of, too_long, input_bytes}
 
 -- ---- the first line of a part
-
-line-inside : (s : List ℕ) → line_length s ≤ length s
-unfolding line_length
-line-inside [] = omega arith
-line-inside (b ∷ s) = go (eqb b 10) (line-inside s)
-  where
-    go : (t : Bool) → line_length s ≤ length s → cond t 0 (suc (line_length s)) ≤ suc (length s)
-    go true h = omega arith
-    go false h = omega arith
 
 line_in_part : (n : ℕ) (s : List ℕ) → line_length s < n → line_length (take n s) ≡ line_length s
 unfolding line_length
@@ -65,7 +57,7 @@ too_long_lem : (last : ℕ) (line : List ℕ) → too_long ≤ length line → w
 too_long_lem last line h = go (well_formed last line) refl
   where
     go : (t : Bool) → well_formed last line ≡ t → t ≡ false
-    go true e = let b = bounds (frame last line e).size in absurd (omega arith)
+    go true e = let b = bounds (frame last line e).size in absurd (omega (arith, length-drop 2 line))
     go false e = refl
 
 -- ---- what good lines may still come
@@ -134,27 +126,26 @@ both_long s t i last got h k = stops s h ∙ sym (stops t k)
   where
     stops : (l : List ℕ) → too_long ≤ line_length l → reading i last got (lines_of l) ≡ record { refusal = answer 17 i; input = got }
     stops l h =
-        let inside : line_length l ≤ length l = line-inside l in
+        let inside : line_length l ≤ length l = line_inside l in
         let n : length (take (line_length l) l) ≡ line_length l = length-take-le (line_length l) l inside in
         rw (first-line l (omega arith))
         (bad_line i last (take (line_length l) l) got (lines_of (drop (suc (line_length l)) l)) (too_long_lem last (take (line_length l) l) (omega arith)))
 
 -- a line that is in the part: what comes after it decides
 after_line : (line : List ℕ) (ls ms : List (List ℕ)) (i last : ℕ) (got : Input) →
-    (Frame last line (kind line) → 3 ≤ past i last line got ls → reading (suc i) (kind line) (added line got) ls ≡ reading (suc i) (kind line) (added line got) ms) →
+    (Frame last line (kind line) → past i last line got ls ≡ None → reading (suc i) (kind line) (added line got) ls ≡ reading (suc i) (kind line) (added line got) ms) →
     reading i last got (line ∷ ls) ≡ reading i last got (line ∷ ms)
 after_line line ls ms i last got rest = go (well_formed last line) refl
   where
-    then : (t : Bool) (o : ℕ) → ltb o 3 ≡ t → o ≡ past i last line got ls → Frame last line (kind line) →
-        cond t (record { refusal = answer 1 o; input = got }) (reading (suc i) (kind line) (added line got) ls)
-        ≡ cond t (record { refusal = answer 1 o; input = got }) (reading (suc i) (kind line) (added line got) ms)
-    then true o e q f = refl
-    then false o e q f = rest f (rw q at (ltb-false o 3 e))
+    then : (o : Option ℕ) → o ≡ past i last line got ls → Frame last line (kind line) →
+        unless o got (reading (suc i) (kind line) (added line got) ls) ≡ unless o got (reading (suc i) (kind line) (added line got) ms)
+    then (Some place) q f = refl
+    then None q f = rest f (sym q)
 
     go : (t : Bool) → well_formed last line ≡ t → reading i last got (line ∷ ls) ≡ reading i last got (line ∷ ms)
     go true e =
         good_line i last line got ls e
-        ∙ then (ltb (past i last line got ls) 3) (past i last line got ls) refl refl (frame last line e)
+        ∙ then (past i last line got ls) refl (frame last line e)
         ∙ sym (good_line i last line got ms e)
     go false e = bad_line i last line got ls e ∙ sym (bad_line i last line got ms e)
 
@@ -183,20 +174,20 @@ module _ (s : List ℕ) (n i last : ℕ) (got : Input) (a b d : ℕ) (some : 0 <
   line = take u s
 
   digits-many : length line ≡ u
-  digits-many = length-take-le u s (line-inside s)
+  digits-many = length-take-le u s (line_inside s)
 
-  more_room : (f : Frame last line (kind line)) → 3 ≤ past i last line got [] →
+  more_room : (f : Frame last line (kind line)) → past i last line got [] ≡ None →
       InRoom (kind line) (added line got)
-      (a - cond (eqb (kind line) 2) ((length line - 2) / 2) 0) (b - cond (eqb (kind line) 3) 1 0) (d - cond (eqb (kind line) 4) 1 0) (n - suc u)
+      (a - cond (eqb (kind line) 2) (length (drop 2 line) / 2) 0) (b - cond (eqb (kind line) 3) 1 0) (d - cond (eqb (kind line) 4) 1 0) (n - suc u)
   more_room f o =
       let z = bounds f.size in
       let v = f.even in
-      room_after last (kind line) u ((length line - 2) / 2) _ _ _ _ _ _ a b d n f.size f.first (omega (arith, digits-many))
-      (grown got.section 2) (grown got.values 3) (grown got.records 4) (within _ _ _ (past i last line got []) refl o) r
+      room_after last (kind line) u (length (drop 2 line) / 2) _ _ _ _ _ _ a b d n f.size f.first (omega (arith, digits-many, length-drop 2 line))
+      (grown got.section 2) (grown got.values 3) (grown got.records 4) (within _ _ _ o) r
     where
       grown : (l : List ℕ) (mine : ℕ) →
-          length (l ++ cond (eqb (kind line) mine) (body line) []) ≡ length l + cond (eqb (kind line) mine) ((length line - 2) / 2) 0
-      grown l mine = length-append l (cond (eqb (kind line) mine) (body line) []) ∙ ap (λ (x : ℕ). length l + x) (length-own (kind line) mine line)
+          length (l ++ cond (eqb (kind line) mine) (body line) []) ≡ length l + cond (eqb (kind line) mine) (length (drop 2 line) / 2) 0
+      grown l mine = length-append l (cond (eqb (kind line) mine) (body line) []) ∙ ap (λ (x : ℕ). length l + x) (length-own (kind line) mine (drop 2 line))
 
   step : Same s n i last got
   step = go (ltb u too_long) refl

@@ -1,16 +1,17 @@
 -- Writing text, over plain numbers and lists: what is written goes on from what was written.
-use Prim.Native.Nat.{ℕ, zero, suc, ◌+◌, ◌-◌, ◌*◌, ◌/◌, ◌%◌, ◌^◌, ◌≤◌, ◌<◌}
-use native.Mathlib.Nat.{zero-add, not-suc-le-zero}
+use Prim.Native.Nat.{ℕ, zero, suc, min, ◌+◌, ◌-◌, ◌*◌, ◌/◌, ◌%◌, ◌≤◌, ◌<◌}
+use native.Mathlib.Nat.{zero-add}
 use native.Mathlib.Numerals.{add-one}
 use native.Mathlib.Omega.{arith}
 use mathlib.Core.Bool.{Bool, true, false}
-use mathlib.Core.List.{List, [], ◌∷◌, ◌++◌, append_assoc}
+use mathlib.Core.List.{List, [], ◌∷◌, ◌++◌, append_assoc, append-nil}
+use Rattle.std.specs.Int.{w32, w64, to_be_bytes}
+use Rattle.std.proofs.Math.Nat.{div-div-eq-div-mul}
 use mathlib.Core.Path.{◌≡◌, refl, sym, ap, ◌∙◌}
-use borrow.Author.Tests.{eqb-true, eqb-false, ne_eqb}
-use lib.Dec.{eqb}
-use lib.ListN.{length, take, drop, get_or, set, length-append, length-drop, take-append-drop, drop_of_length-le}
-use lib.Pow.{pow-add}
-use lib.Seq.{drop-cons, drop-drop, take_all}
+use borrow.Author.Tests.{leb-true, leb-false, ne_eqb}
+use lib.Dec.{leb}
+use lib.ListN.{length, take, drop, get_or, set, length-set, length-append, length-drop, take-append-drop, drop_of_length-le}
+use lib.Seq.{drop-cons, take_all, take_at, drop_at}
 use Rattle.meaning.specs.Numbers.{cut}
 use Rattle.meaning.specs.Checks.{answer_at, section_limit}
 use Rattle.meaning.specs.Frames.{digit_for, digits, digits_of, frames02, section_lines, written}
@@ -39,36 +40,45 @@ unfolding digits_of
 length-digits_of [] = refl
 length-digits_of (b ∷ bs) = rw (length-append, length_digits 2 b, length-digits_of bs) (omega arith)
 
-pow_16 : (k : ℕ) → 2 ^ (4 * k) ≡ 16 ^ k
-pow_16 zero = refl
-pow_16 (suc k) =
-    let e : 4 * suc k ≡ 4 * k + 4 = omega arith in
-    ap (λ (n : ℕ). 2 ^ n) e ∙ pow-add 2 (4 * k) 4 ∙ ap (λ (n : ℕ). n * 16) (pow_16 k) ∙ sym (ap (λ (n : ℕ). 16 ^ n) (sym (add-one k)) ∙ pow-add 16 k 1)
-
-pub digits_next : (to left x d : ℕ) (out : List ℕ) → 0 < left → to < length out → d ≡ digit_for (x / 2 ^ (4 * (left - 1)) % 16) →
-    laid (to + 1) (digits (left - 1) x) (set out to d) ≡ laid to (digits left x) out
-unfolding digits
-digits_next to zero x d out p h e = absurd (not-suc-le-zero p)
-digits_next to (suc k) x d out p h e =
-    let n : suc k - 1 ≡ k = omega arith in
-    rw (add-one, n, e, n, pow_16 k) (sym (laid_cons to out (digit_for (x / 16 ^ k % 16)) (digits k x) h))
-
-pub digits_done : (to left x : ℕ) (out : List ℕ) → left ≤ 0 → laid to (digits left x) out ≡ out
-unfolding digits
-digits_done to zero x out h = laid_none to out
-digits_done to (suc k) x out h = absurd (not-suc-le-zero h)
-
 module _ (to i : ℕ) (bs out : List ℕ) where
-  pub bytes_next : i < length bs → to + 2 ≤ length out →
-      laid (to + 2) (digits_of (drop (i + 1) bs)) (laid to (digits 2 (get_or bs i 0)) out) ≡ laid to (digits_of (drop i bs)) out
-  unfolding digits_of
-  bytes_next h k =
-      let n : length (digits 2 (get_or bs i 0)) ≡ 2 = length_digits 2 (get_or bs i 0) in
-      rw (add-one i, drop-cons bs i 0 h, laid-append to (digits 2 (get_or bs i 0)) (digits_of (drop (suc i) bs)) out (omega arith), n)
+  pub bytes_next : i < length bs → get_or bs i 0 < 256 → to + 2 ≤ length out →
+      laid (to + 2) (digits_of (drop (i + 1) bs)) (set (set out to (digit_for (get_or bs i 0 / 16))) (to + 1) (digit_for (get_or bs i 0 % 16)))
+      ≡ laid to (digits_of (drop i bs)) out
+  unfolding digits_of digits
+  bytes_next h small k =
+      let n : to + 2 ≡ suc (suc to) = omega arith in
+      let high : get_or bs i 0 / 16 % 16 ≡ get_or bs i 0 / 16 = omega arith in
+      let low : get_or bs i 0 / 1 % 16 ≡ get_or bs i 0 % 16 = omega arith in
+      rw (add-one i, drop-cons bs i 0 h, high, low, n, add-one to)
+      (sym (laid_cons to out _ _ (omega arith) ∙ laid_cons (suc to) (set out to (digit_for (get_or bs i 0 / 16))) _ _ (rw length-set (omega arith))))
 
   pub bytes_done : length bs ≤ i → laid to (digits_of (drop i bs)) out ≡ out
   unfolding digits_of
   bytes_done h = rw (drop_of_length-le bs {i = i} h) (laid_none to out)
+
+-- bytes of their own as digits: one, two, and a number's, the highest first
+pub one_byte : (b : ℕ) → digits_of (b ∷ []) ≡ digits 2 b
+unfolding digits_of
+one_byte b = append-nil (digits 2 b)
+
+high_digit : (y : ℕ) → y % 256 / 16 % 16 ≡ y / 16 % 16
+high_digit y = omega arith
+
+low_digit : (y : ℕ) → y % 256 / 1 % 16 ≡ y / 1 % 16
+low_digit y = omega arith
+
+pub place_digits : (x : ℕ) → digits_of (to_be_bytes w32 x) ≡ digits 8 x
+unfolding digits_of digits
+place_digits x = simp (high_digit, low_digit, div-div-eq-div-mul)
+
+pub offset_digits : (x : ℕ) → digits_of (to_be_bytes w64 x) ≡ digits 16 x
+unfolding digits_of digits
+offset_digits x = simp (high_digit, low_digit, div-div-eq-div-mul)
+
+-- those of a refusal, of which the low two are written
+pub refusal_digits : (x : ℕ) → digits_of (255 ∷ x % 256 ∷ []) ≡ digits 2 255 ++ digits 2 x
+unfolding digits_of digits
+refusal_digits x = simp (high_digit, low_digit)
 
 -- ---- a line, and the section's lines
 
@@ -76,7 +86,7 @@ pub length-frame02 : (bs : List ℕ) → length (frame02 bs) ≡ 2 * length bs +
 length-frame02 bs = simp (length-append, length_digits, length-digits_of) (omega arith)
 
 -- what is written piece by piece
-pub ruleset pieces = (laid-append, laid_one, length-append, length-laid, length_digits, length-digits_of)
+pub ruleset pieces = (one_byte, place_digits, offset_digits, laid-append, laid_one, length-append, length-laid, length_digits, length-digits_of)
 
 frames02_cons : (p : List ℕ) (ps : List (List ℕ)) → frames02 (p ∷ ps) ≡ frame02 p ++ frames02 ps
 unfolding frames02
@@ -90,50 +100,47 @@ sixty_four t h =
     let n : (length t + 63) / 64 ≡ suc ((length (drop 64 t) + 63) / 64) = omega arith in
     rw n (frames02_cons (take 64 t) (cut 64 ((length (drop 64 t) + 63) / 64) (drop 64 t)))
 
-pub section-more : (s : List ℕ) (from end : ℕ) → from < length s → end ≤ from + 64 → end ≤ length s → (end < from + 64 → end ≡ length s) →
-    section_lines (drop from s) ≡ frame02 (take (end - from) (drop from s)) ++ section_lines (drop end s)
-section-more s from end h a b k =
-    let n : length (drop from s) ≡ length s - from = length-drop from s in
-    sixty_four (drop from s) (omega arith) ∙ rw (drop-drop 64 from s) (go (eqb end (from + 64)) refl)
-  where
-    go : (t : Bool) → eqb end (from + 64) ≡ t →
-        frame02 (take 64 (drop from s)) ++ section_lines (drop (from + 64) s) ≡ frame02 (take (end - from) (drop from s)) ++ section_lines (drop end s)
-    go true e =
-        let p : end ≡ from + 64 = eqb-true end (from + 64) e in
-        let q : from + 64 - from ≡ 64 = omega arith in
-        rw (p, q)
-    go false e =
-        let less : end < from + 64 = omega (arith, eqb-false end (from + 64) e) in
-        let p : end ≡ length s = k less in
-        let n : length (drop from s) ≡ length s - from = length-drop from s in
-        rw (
-          p,
-          take_all 64 (drop from s) (omega arith),
-          take_all (length s - from) (drop from s) (omega arith),
-          drop_of_length-le s {i = from + 64} (omega arith),
-          drop_of_length-le s {i = length s} (omega arith),
-        )
+length_none : (l : List ℕ) → length l ≡ 0 → l ≡ []
+length_none [] e = refl
+length_none (b ∷ l) e = absurd (omega arith)
 
-module _ (s : List ℕ) (from end : ℕ) (h : from < length s) (a : end ≤ from + 64) (b : end ≤ length s) (k : end < from + 64 → end ≡ length s) where
-  pub section_length : length (section_lines (drop from s)) ≡ 2 * length (take (end - from) (drop from s)) + 3 + length (section_lines (drop end s))
+module _ (left piece rest : List ℕ) (parts : left ≡ piece ++ rest) (size : length piece ≡ min 64 (length left)) (some : 0 < length left) where
+  cut_off : (take 64 left ≡ piece) × (drop 64 left ≡ rest)
+  cut_off = go (leb 64 (length left)) refl
+    where
+      n : length left ≡ length piece + length rest
+      n = ap length parts ∙ length-append piece rest
+
+      go : (t : Bool) → leb 64 (length left) ≡ t → (take 64 left ≡ piece) × (drop 64 left ≡ rest)
+      go true e =
+          let h = leb-true 64 (length left) e in
+          (rw parts (take_at piece rest 64 (omega arith)), rw parts (drop_at piece rest 64 (omega arith)))
+      go false e =
+          let h = leb-false 64 (length left) e in
+          let none : rest ≡ [] = length_none rest (omega (arith, n)) in
+          let all : left ≡ piece = parts ∙ rw (none, append-nil) in
+          (take_all 64 left (omega arith) ∙ all, drop_of_length-le left {i = 64} (omega arith) ∙ sym none)
+
+  section_more : section_lines left ≡ frame02 piece ++ section_lines rest
+  section_more = sixty_four left some ∙ rw (cut_off.0, cut_off.1)
+
+  pub section_length : length (section_lines left) ≡ 2 * length piece + 3 + length (section_lines rest)
   section_length =
-      ap length (section-more s from end h a b k)
-      ∙ length-append (frame02 (take (end - from) (drop from s))) (section_lines (drop end s))
-      ∙ ap (λ (n : ℕ). n + length (section_lines (drop end s))) (length-frame02 (take (end - from) (drop from s)))
+      ap length section_more ∙ length-append (frame02 piece) (section_lines rest) ∙ ap (λ (n : ℕ). n + length (section_lines rest)) (length-frame02 piece)
 
-  pub section_laid : (to : ℕ) (out : List ℕ) → to + (2 * length (take (end - from) (drop from s)) + 3) ≤ length out →
-      laid (to + (2 * length (take (end - from) (drop from s)) + 3)) (section_lines (drop end s)) (laid to (frame02 (take (end - from) (drop from s))) out)
-      ≡ laid to (section_lines (drop from s)) out
+  pub section_laid : (to : ℕ) (out : List ℕ) → to + (2 * length piece + 3) ≤ length out →
+      laid (to + (2 * length piece + 3)) (section_lines rest) (laid to (frame02 piece) out) ≡ laid to (section_lines left) out
   section_laid to out fits =
-      let m = length-frame02 (take (end - from) (drop from s)) in
+      let m = length-frame02 piece in
       sym
-      (ap (λ (w : List ℕ). laid to w out) (section-more s from end h a b k)
-      ∙ laid-append to (frame02 (take (end - from) (drop from s))) (section_lines (drop end s)) out (omega arith)
-      ∙ ap (λ (n : ℕ). laid (to + n) (section_lines (drop end s)) (laid to (frame02 (take (end - from) (drop from s))) out)) m)
+      (ap (λ (w : List ℕ). laid to w out) section_more
+      ∙ laid-append to (frame02 piece) (section_lines rest) out (omega arith)
+      ∙ ap (λ (n : ℕ). laid (to + n) (section_lines rest) (laid to (frame02 piece) out)) m)
 
-pub section_end : (s : List ℕ) (from : ℕ) → length s ≤ from → section_lines (drop from s) ≡ []
+pub section_end : (s : List ℕ) → length s ≡ 0 → section_lines s ≡ []
 unfolding section_lines frames02 cut
-section_end s from h = rw (drop_of_length-le s {i = from} h)
+section_end [] h = refl
+section_end (b ∷ s) h = absurd (omega arith)
 
 -- a full section's lines: 1,024 of 131 bytes
 lines_fit : (m : ℕ) (s : List ℕ) → length s ≤ 64 * m → length (frames02 (cut 64 m s)) ≡ 3 * m + 2 * length s
@@ -165,4 +172,4 @@ unfolding written
 refused_is number place offset section h = simp (ne_eqb number 0 h, append_assoc)
 
 -- and all of it
-pub ruleset whole = (pieces, laid_front, section_fits, accepted_is, refused_is)
+pub ruleset whole = (pieces, refusal_digits, laid_front, section_fits, accepted_is, refused_is)

@@ -11,51 +11,25 @@ ghost use Rattle.output.specs.Text.{frame02, place_line, output_bytes};
 // The longest output: a first line of 27 bytes, and a full section's 1,024 lines of 131.
 pub const OUTPUT: usize = 134171;
 
-fn wide(x: u8) -> u64
-    ensures { result ≡ x }
-{
-    x as u64
-}
-
 // The digit for a number below 16. Lower case is written.
 #[tactic(auto, unfolding(meaning::specs::Frames::digit_for))]
-fn digit_for(d: u64) -> u8
+fn digit_for(d: u8) -> u8
     requires { d < 16 }
     ensures { result ≡ F.digit_for d }
 {
-    if d < 10 {
-        return (48 + d) as u8;
-    }
-    (97 + (d - 10)) as u8
+    char::from_digit(u32::from(d), 16).unwrap() as u8
 }
 
-// Writes the low n digits of x at `at`, the highest first.
-#[tactic(auto, using(crate::proofs::Writer::digits_next, crate::proofs::Writer::digits_done))]
-fn put_digits(out: &mut [u8], at: usize, n: usize, x: u64)
-    requires { (n ≤ 16) × (at + n ≤ length out.old) }
-    ensures { out.new ≡ laid at (F.digits n x) out.old }
-{
-    let mut to = at;
-    let mut left = n;
-    while 0 < left {
-        left -= 1;
-        out[to] = digit_for((x >> (4 * left)) % 16);
-        to += 1;
-    }
-}
-
-// Writes bytes at `at`, two digits each.
+// Writes bytes at `at`, two digits each. Not `hex::encode_to_slice`, which takes 10 instructions a byte and this 3: with it the program takes a
+// fifth more. (`out` and `at` are no struct with methods: each would have to promise besides that the reference in it stays the same one.)
 #[tactic(auto, using(crate::proofs::Writer::bytes_next, crate::proofs::Writer::bytes_done))]
 fn put_bytes(out: &mut [u8], at: usize, bytes: &[u8])
     requires { at + 2 * length bytes.now ≤ length out.old }
     ensures { out.new ≡ laid at (F.digits_of bytes.now) out.old }
 {
-    let mut to = at;
-    let mut i = 0;
-    while i < bytes.len() {
-        put_digits(out, to, 2, wide(bytes[i]));
-        to += 2;
-        i += 1;
+    for (i, b) in bytes.iter().enumerate() {
+        out[at + 2 * i] = digit_for(*b / 16);
+        out[at + 2 * i + 1] = digit_for(*b % 16);
     }
 }
 
@@ -66,23 +40,11 @@ fn put_line(out: &mut [u8], at: usize, bytes: &[u8]) -> usize
     ensures out_after { out.new ≡ laid at (frame02 bytes.now) out.old }
     ensures value { result ≡ at + (2 * length bytes.now + 3) }
 {
-    put_digits(out, at, 2, 2);
+    put_bytes(out, at, &[2]);
     put_bytes(out, at + 2, bytes);
     let end = at + (2 * bytes.len() + 2);
-    out[end] = 10;
+    out[end] = b'\n';
     end + 1
-}
-
-// Where the line of output that starts at `from` ends: after 64 bytes, or at the section's end.
-fn piece_end(from: usize, len: usize) -> usize
-    requires { from < len }
-    ensures lower_bound { (from < result) × (result ≤ from + 64) × (result ≤ len) }
-    ensures value { result < from + 64 → result ≡ len }
-{
-    if len - from < frames::LINE {
-        return len;
-    }
-    from + frames::LINE
 }
 
 // Writes the section as 02 lines of 64 bytes, the last shorter, and answers the place after them.
@@ -93,11 +55,8 @@ fn put_section(out: &mut [u8], at: usize, section: &[u8]) -> usize
     ensures value { result ≡ at + length (F.section_lines section.now) }
 {
     let mut to = at;
-    let mut from = 0;
-    while from < section.len() {
-        let end = piece_end(from, section.len());
-        to = put_line(out, to, &section[from..end]);
-        from = end;
+    for piece in section.chunks(frames::LINE) {
+        to = put_line(out, to, piece);
     }
     to
 }
@@ -109,14 +68,16 @@ fn put_place(out: &mut [u8], at: usize, place: u32, offset: u64) -> usize
     ensures out_after { out.new ≡ laid at (place_line place offset) out.old }
     ensures value { result ≡ at + 25 }
 {
-    put_digits(out, at, 8, place as u64);
-    put_digits(out, at + 8, 16, offset);
+    put_bytes(out, at, &place.to_be_bytes());
+    put_bytes(out, at + 8, &offset.to_be_bytes());
     let end = at + 24;
-    out[end] = 10;
+    out[end] = b'\n';
     end + 1
 }
 
-// Writes the program's output for an answer and a section into the front of `out`, and answers how long it is.
+// Writes the program's output for an answer and a section into the front of `out`, and answers how long it is. It is not inlined: where a
+// caller has both in one struct, the compiler does not see that they are apart, and writes one digit after the other.
+#[inline(never)]
 #[tactic(auto, using(crate::proofs::Writer::whole))]
 pub fn write(section: &[u8], number: u32, place: u32, offset: u64, out: &mut [u8]) -> usize
     requires section_len_bound { length section.now ≤ section_limit }
@@ -125,11 +86,10 @@ pub fn write(section: &[u8], number: u32, place: u32, offset: u64, out: &mut [u8
     ensures value { result ≡ length (F.written (answer_at number place offset) section.now) }
 {
     if number == 0 {
-        put_digits(out, 0, 2, 0);
+        put_bytes(out, 0, &[0]);
         let end = put_place(out, 2, place, offset);
         return put_section(out, end, section);
     }
-    put_digits(out, 0, 2, 255);
-    put_digits(out, 2, 2, number as u64);
+    put_bytes(out, 0, &[255, (number % 256) as u8]);
     put_place(out, 4, place, offset)
 }

@@ -1,172 +1,156 @@
--- The loops over the records, over plain lists: what holds before each record, and how a turn goes on.
-use Prim.Native.Nat.{ℕ, zero, suc, ◌+◌, ◌/◌, ◌≤◌, ◌<◌}
-use native.Mathlib.Numerals.{add-one}
-use native.Mathlib.Omega.{arith}
-use mathlib.Core.Bool.{true, false, cond}
-use mathlib.Core.List.{List, [], ◌∷◌, map}
-use mathlib.Core.Path.{◌≡◌, refl, sym, ap, ◌∙◌, subst, subst⁻¹}
-use borrow.Author.Tests.{eq-eqb, ne_eqb}
-use lib.Dec.{eqb}
-use lib.IntN.{ℤ}
-use lib.ListN.{length}
+-- The loops over the records: what holds before each, and what a turn makes of it.
+use Rattle.std.proofs.Common.{ℕ, zero, suc, ◌+◌, ◌/◌, ◌<◌, ◌≤◌, arith, List, [], ◌∷◌, ◌≡◌, refl, sym, subst, ap, ◌∙◌, Bool, cond, not, ℤ, eqb, eq-eqb, ne_eqb, add-one, length, map, drop, drop-cons, get_or, Result, Ok, Err}
+use Rattle.std.proofs.lemmas.List.{drop_all, length-map}
+use Rattle.std.proofs.lemmas.Result.{err_from_is_err_and}
 use Rattle.meaning.specs.Table.{Semantics}
-use Rattle.meaning.specs.Call.{Call, Record, card64, row_bytes, rows_of, row_of, symbol_in, does, record_with, record_of, records_of}
-use Rattle.meaning.specs.Stack.{depth, after}
-use Rattle.meaning.specs.Checks.{Answer, answer, answer_at, first, of_record, of_records}
-use Rattle.meaning.specs.Patch.{effect, patched}
-use Rattle.lemmas.specs.First.{first-append}
+use Rattle.meaning.specs.Call as M
+use Rattle.meaning.specs.Call.{Call, Record, card64, row_bytes, rows_of, row_of, no_row, symbol_in, offset_in, does, record_of}
+use Rattle.meaning.specs.Stack.{after}
+use Rattle.meaning.specs.Checks.{Answer, Check, answer, answer_at, check, first, of_record, of_records}
+use Rattle.meaning.specs.Patch.{patched}
+use Rattle.lemmas.specs.First.{first-append, first_passed}
 use Rattle.lemmas.specs.Passed.{refusal_of, first_record}
-use Rattle.lemmas.specs.Pieces.{piece, pieces_from, from_start, from_next, from_end, length_records}
-use Rattle.stack.specs.Tops.{tops, Fit, Holds}
+use Rattle.refusals.specs.Numbers.{number_of, numbered}
+use Rattle.refusals.specs.declared.Refusal.{Refusal}
+use Rattle.refusals.specs.declared.Refused.{Refused}
+use Rattle.stack.specs.Tops.{tops, Holds, Judges}
 use Rattle.stack.specs.Laws.{tops_none, length-tops}
-use Rattle.values.proofs.Laws.{row_whole, row_none}
-use Rattle.records.specs.declared.Setting as R
-use Rattle.records.specs.Given.{seen}
-use Rattle.steps.specs.Step.{Ready}
-use Rattle.patch.specs.declared.Answer as D
-use Rattle.patch.specs.declared.Answer.TheVariants.{Refused}
-use Rattle.patch.specs.Answers.{Answers, records_answer}
+use Rattle.stack.specs.declared.Stack.{Stack}
+use Rattle.values.proofs.Laws.{row_none}
+use Rattle.records.specs.declared.Record as R
+use Rattle.records.specs.declared.Setting as S
+use Rattle.records.specs.Given.{given, record_in, setting_in}
+use Rattle.writers.specs.Written.{Judged, Writes}
+use Rattle.patch.specs.declared.Fault.{Fault}
+use Rattle.patch.specs.Answers.{answer_in, records_of_pieces, records_answer}
+use Rattle.patch.proofs.Lists.{AllPass, Refuses, Returns, without_record, passed, stopped}
 
--- ---- a turn's record and its row
+module _ (setting : S.Setting) (values : List ℕ) (pieces : List (List ℕ)) where
+  abbrev call : Call
+  call = given setting values
 
--- What the code holds in a turn: the bytes of record i, and its row.
-pub record Turn (setting : R.Setting) (records values rela row : List ℕ) (i : ℕ) : Type 0 where
-  pub is : seen rela row ≡ record_of card64 values (piece card64.record_bytes records i)
-  pub ready : Ready setting rela row
-
-pub turn : (setting : R.Setting) (records values rela row : List ℕ) (i symbol : ℕ) → setting.rows ≡ length values / row_bytes →
-    (rela ≡ piece card64.record_bytes records i) × (length rela ≡ card64.record_bytes) → symbol ≡ symbol_in card64 rela → row ≡ row_of (rows_of values) symbol → Turn setting records values rela row i
-turn setting records values rela row i symbol rows (e, whole) f g =
-    let its : row ≡ row_of (rows_of values) (symbol_in card64 rela) = g ∙ ap (row_of (rows_of values)) f in
-    record {
-      is = ap (record_with card64 rela) its ∙ ap (record_of card64 values) e;
-      ready =
-          record {
-            whole = whole;
-            whole_row = ap length its ∙ row_whole values (symbol_in card64 rela);
-            nothing = λ past. its ∙ row_none values (symbol_in card64 rela) (subst (λ (n : ℕ). n < symbol_in card64 rela) rows past);
-          };
-    }
-
--- a refusal by its three numbers
-pub refused_so : (n i o : ℕ) {r : D.Answer} {a : Answer} → r ≡ Refused n i o → answer_at n i o ≡ a → (n ≡ 0 → ⊥) → Answers r a
-refused_so n i o {r} {a} e says some = subst⁻¹ (λ (q : D.Answer). Answers q a) e (record { says = says; proper = some })
-
--- ---- the records
-
-module _ (c : Call) (records : List ℕ) where
-  abbrev size : ℕ
-  size = c.setting.card.record_bytes
-
-  abbrev number : ℕ
-  number = length records / size
-
-  -- record i, what it does, and the records from number i on
-  abbrev pub record_at : ℕ → Record
-  record_at i = record_of c.setting.card c.values (piece size records i)
-
-  abbrev pub doing : ℕ → Semantics
-  doing i = does c.setting (record_at i)
-
-  abbrev rest_of : ℕ → List Record
-  rest_of i = map (record_of c.setting.card c.values) (pieces_from size records number i)
+  -- the records from number i on
+  abbrev rest : ℕ → List Record
+  rest i = records_of_pieces call (drop i pieces)
 
   abbrev accepted : Answer
-  accepted = answer 0 (length (records_of c records))
+  accepted = answer 0 (length (rest 0))
 
-  -- Before record i, in either loop: the records from here on, with the stack that the earlier ones left, answer as all do.
+  -- Before record i: the records from here on, with the stack that the earlier ones left, answer as all do.
   pub record Going (entries : List ℤ) (h i : ℕ) : Type 0 where
-    pub within : i ≤ number
-    pub fit : Fit entries h
-    pub answers : first (of_records c.setting i (tops entries h) (rest_of i)) accepted ≡ records_answer c records
+    pub answers : first (of_records call.setting i (tops entries h) (rest i)) accepted ≡ records_answer call pieces
 
-  -- They leave in the section, as it is now, what all leave.
-  abbrev pub Leaving : List ℕ → List ℕ → List ℤ → ℕ → ℕ → Type 0
-  Leaving s₀ s entries h i = patched c.setting (tops entries h) s (rest_of i) ≡ patched c.setting [] s₀ (records_of c records)
+  -- And they leave in the section, as it is now, what all leave.
+  pub record Writing (s₀ s : List ℕ) (entries : List ℤ) (h i : ℕ) : Type 0 where
+    pub going : Going entries h i
+    pub leaves : patched call.setting (tops entries h) s (rest i) ≡ patched call.setting [] s₀ (rest 0)
 
-  all : rest_of 0 ≡ records_of c records
-  all = ap (map (record_of c.setting.card c.values)) (from_start size records number)
+  pub going_start : (entries : List ℤ) (h : ℕ) → h ≡ 0 → Going entries h 0
+  going_start entries h z = record { answers = rw (z, tops_none entries) }
 
-  pub going_start : (entries : List ℤ) (h : ℕ) → length entries ≡ depth → h ≡ 0 → Going entries h 0
-  going_start entries h e z =
-      record {
-        within = omega arith;
-        fit = record { low = omega arith; long = e };
-        answers = rw (all, z, tops_none entries);
-      }
+  pub writing_start : (s : List ℕ) (entries : List ℤ) (h : ℕ) → h ≡ 0 → Writing s s entries h 0
+  writing_start s entries h z = record { going = going_start entries h z; leaves = rw (z, tops_none entries) }
 
-  pub leaving_start : (entries : List ℤ) (h : ℕ) (s : List ℕ) → h ≡ 0 → Leaving s s entries h 0
-  leaving_start entries h s z = rw (all, z, tops_none entries)
+  -- ---- the turn of record i, with the code's record
 
-  -- a turn at record i
-  module _ (entries : List ℤ) (h i : ℕ) (more : i < number) where
-    abbrev refusal : ℕ
-    refusal = refusal_of c.setting (record_at i) (doing i) (tops entries h)
+  module _ (i : ℕ) (rela : R.Record) (more : i < length pieces) (bytes : rela.bytes.now ≡ get_or pieces i [])
+      (row : rela.row.now ≡ row_of (rows_of values) (symbol_in card64 (get_or pieces i []))) (its : rela.setting.now ≡ setting) where
+    it_is_next : rest i ≡ record_in rela ∷ rest (suc i)
+    it_is_next = rw (bytes, row) (ap (map (record_of card64 values)) (drop-cons pieces i [] more))
 
-    abbrev next : List ℤ
-    next = after c.setting (record_at i) (doing i) (tops entries h)
+    -- past the rows nothing is present in its row
+    pub ready : setting.rows ≡ length values / row_bytes → rela.setting.now.rows < symbol_in card64 rela.bytes.now → rela.row.now ≡ no_row
+    ready e past =
+        row ∙ row_none values _ (subst (λ (x : List ℕ). length values / row_bytes < symbol_in card64 x) bytes (rw (its, e) at past))
 
-    one_more : rest_of i ≡ record_at i ∷ rest_of (suc i)
-    one_more = ap (map (record_of c.setting.card c.values)) (from_next size records number i more)
+    module _ (entries : List ℤ) (h : ℕ) where
+      abbrev refusal : M.Setting → ℕ
+      refusal c = refusal_of c (record_in rela) (does c (record_in rela)) (tops entries h)
 
-    module _ (going : Going entries h i) where
-      -- the answer of all, by this record's refusal
-      here : cond (eqb refusal 0) (first (of_records c.setting (suc i) next (rest_of (suc i))) accepted) (answer_at refusal i (record_at i).offset) ≡ records_answer c records
-      unfolding of_records
-      here =
-          sym (first_record c.setting i (record_at i) (doing i) (tops entries h) (first (of_records c.setting (suc i) next (rest_of (suc i))) accepted))
-          ∙ sym (first-append (of_record c.setting i (record_at i) (doing i) (tops entries h)) (of_records c.setting (suc i) next (rest_of (suc i))) accepted)
-          ∙ ap (λ (x : List Record). first (of_records c.setting i (tops entries h) x) accepted) (sym one_more)
-          ∙ going.answers
+      abbrev next : M.Setting → List ℤ
+      next c = after c (record_in rela) (does c (record_in rela)) (tops entries h)
 
-      pub stops_here : (n : ℕ) → n ≡ refusal → (n ≡ 0 → ⊥) → answer_at n i (record_at i).offset ≡ records_answer c records
-      stops_here n e z = ap (λ (m : ℕ). answer_at m i (record_at i).offset) e ∙ (rw (ne_eqb refusal 0 (λ q. z (e ∙ q))) at here)
+      module _ (going : Going entries h i) where
+        -- the answer of all, by this record's refusal
+        here : cond (eqb (refusal call.setting) 0) (first (of_records call.setting (suc i) (next call.setting) (rest (suc i))) accepted) (answer_at (refusal call.setting) i (record_in rela).offset)
+            ≡ records_answer call pieces
+        unfolding of_records
+        here =
+            let later : Answer = first (of_records call.setting (suc i) (next call.setting) (rest (suc i))) accepted in
+            let d : Semantics = does call.setting (record_in rela) in
+            sym (first_record call.setting i (record_in rela) d (tops entries h) later)
+            ∙ sym (first-append (of_record call.setting i (record_in rela) d (tops entries h)) (of_records call.setting (suc i) (next call.setting) (rest (suc i))) accepted)
+            ∙ (rw it_is_next at going.answers)
 
-      -- where no record is refused, this one is not
-      pub passes_here : (records_answer c records).number ≡ 0 → refusal ≡ 0
-      passes_here judged = go refusal refl
-        where
-          go : (n : ℕ) → n ≡ refusal → refusal ≡ 0
-          go zero e = sym e
-          go (suc n) e =
-              let stopped : suc n ≡ 0 = ap (λ (a : Answer). a.number) (stops_here (suc n) e (λ q. omega arith)) ∙ judged in
-              absurd (omega arith)
+        stops_here : (n : ℕ) → n ≡ refusal call.setting → (n ≡ 0 → ⊥) → answer_at n i (record_in rela).offset ≡ records_answer call pieces
+        stops_here n e some = rw e (rw (ne_eqb (refusal call.setting) 0 (λ q. some (e ∙ q))) at here)
 
-      pub goes_on : (entries' : List ℤ) (h' : ℕ) → refusal ≡ 0 → Holds next entries' h' → Going entries' h' (i + 1)
-      goes_on entries' h' e t =
-          subst⁻¹ (Going entries' h') (add-one i)
-          (record { within = more; fit = t.fit; answers = rw t.is (rw (eq-eqb refusal 0 e) at here) })
+        goes_on : (entries' : List ℤ) (h' : ℕ) → refusal call.setting ≡ 0 → Holds (next call.setting) entries' h' → Going entries' h' (i + 1)
+        goes_on entries' h' e t = record { answers = rw (add-one i, t.is) (rw (eq-eqb (refusal call.setting) 0 e) at here) }
 
-    -- the record's effect is one step of what all leave
-    pub leaves_on : (s₀ s s' : List ℕ) (entries' : List ℤ) (h' : ℕ) → Leaving s₀ s entries h i → Holds next entries' h' →
-        s' ≡ effect c.setting (record_at i) (doing i) (tops entries h) s → Leaving s₀ s' entries' h' (i + 1)
-    unfolding patched
-    leaves_on s₀ s s' entries' h' leaving t w =
-        subst⁻¹ (Leaving s₀ s' entries' h') (add-one i)
-        (rw (t.is, w) (ap (patched c.setting (tops entries h) s) (sym one_more) ∙ leaving))
+        -- judging: a refusal is the answer of all, and a record that passes leaves it to the next
+        pub stops : (st s : List ℤ) (j : Result Stack Refusal) (r : Refusal) (o : ℕ) → j ≡ Err r → o ≡ offset_in card64 rela.bytes.now →
+            Judges (refusal (setting_in rela)) st s j → answer_at (number_of r) i o ≡ records_answer call pieces
+        stops st s j r o e f judged =
+            let k = rw its at (rw e at judged) in
+            rw f (stops_here _ k.says (numbered r))
+
+        pub goes : (s : List ℤ) (j : Result Stack Refusal) (stack : Stack) → j ≡ Ok stack →
+            Judges (refusal (setting_in rela)) (next (setting_in rela)) s j → Going s stack.height (i + 1)
+        goes s j stack e judged =
+            let k = rw its at (rw e at judged) in
+            goes_on _ _ (sym k.says) k.leaves
+
+        -- where no record is refused, this one is not
+        passes : (records_answer call pieces).number ≡ 0 → refusal call.setting ≡ 0
+        passes judged = go (refusal call.setting) refl
+          where
+            go : (n : ℕ) → n ≡ refusal call.setting → refusal call.setting ≡ 0
+            go zero e = sym e
+            go (suc n) e =
+                let z : suc n ≡ 0 = ap (λ (a : Answer). a.number) (stops_here (suc n) e (λ q. omega arith)) ∙ judged in
+                absurd (omega arith)
+
+      -- writing: the record was judged, and its effect is one step of what all leave
+      module _ (s₀ s : List ℕ) (writing : Writing s₀ s entries h i) (judged : (records_answer call pieces).number ≡ 0) where
+        pub was_judged : setting.size ≡ length s₀ → length s ≡ length s₀ → Judged rela (does (setting_in rela) (record_in rela)) entries h s
+        was_judged e f = rw its (record { size = e ∙ sym f; passes = passes writing.going judged })
+
+        pub wrote : (s' : List ℕ) (entries' : List ℤ) (h' : ℕ) →
+            Writes (setting_in rela) (record_in rela) (does (setting_in rela) (record_in rela)) entries h s entries' h' s' → Writing s₀ s' entries' h' (i + 1)
+        unfolding patched
+        wrote s' entries' h' written =
+            let w = rw its at written in
+            record {
+              going = goes_on writing.going _ _ (passes writing.going judged) w.stack;
+              leaves = rw (add-one i, w.stack.is, w.bytes) (rw it_is_next at writing.leaves);
+            }
 
   -- ---- after the last record
 
-  module _ (entries : List ℤ) (h i : ℕ) (last : i ≡ number) where
-    none_left : rest_of i ≡ []
-    none_left = subst⁻¹ (λ (j : ℕ). rest_of j ≡ []) last (ap (map (record_of c.setting.card c.values)) (from_end size records number))
+  module _ (i : ℕ) (last : length pieces ≤ i) (bound : i ≤ length pieces) (entries : List ℤ) (h : ℕ) where
+    ends : Going entries h i → first (check 16 (length pieces) (not (eqb h 0)) ∷ []) accepted ≡ records_answer call pieces
+    unfolding of_records
+    ends going =
+        let e : i ≡ length pieces = omega arith in
+        rw (e, drop_all (length pieces) pieces (omega arith), length-tops entries h) at going.answers
 
-    module _ (going : Going entries h i) where
-      at_end : first (of_records c.setting i (tops entries h) []) accepted ≡ records_answer c records
-      at_end = ap (λ (x : List Record). first (of_records c.setting i (tops entries h) x) accepted) (sym none_left) ∙ going.answers
+    -- the check of the entries left, as the code makes it
+    module _ (fails : Bool) (some_left : fails ≡ not (eqb h 0)) where
+      abbrev left : List Check
+      left = check 16 (length pieces) fails ∷ []
 
-      pub ends_left : (h ≡ 0 → ⊥) → answer 16 number ≡ records_answer c records
-      unfolding of_records first
-      ends_left z =
-          let k : eqb (length (tops entries h)) 0 ≡ false = ne_eqb (length (tops entries h)) 0 (λ q. z (sym (length-tops entries h) ∙ q)) in
-          ap (answer 16) (sym last) ∙ (rw k at at_end)
+      pub ends_left : (f : Refused) (r : Result ℕ Fault) → Refuses left f → Returns r (without_record f) → Going entries h i → answer_in r ≡ records_answer call pieces
+      ends_left f r refuses out going =
+          let p = err_from_is_err_and r out in
+          rw (p.1, p.2) (sym (stopped left f refuses accepted) ∙ (rw (← some_left) at ends going))
 
-      pub ends_accepted : h ≡ 0 → answer 0 number ≡ records_answer c records
-      unfolding of_records first
-      ends_accepted z =
-          let k : eqb (length (tops entries h)) 0 ≡ true = eq-eqb (length (tops entries h)) 0 (length-tops entries h ∙ z) in
-          ap (answer 0) (sym (length_records c records)) ∙ (rw k at at_end)
+      pub ends_accepted : AllPass left → Going entries h i → answer 0 (length pieces) ≡ records_answer call pieces
+      ends_accepted e going =
+          ap (answer 0) (sym (length-map pieces (record_of card64 values)))
+          ∙ sym (first_passed left accepted (passed left (omega arith) e))
+          ∙ (rw (← some_left) at ends going)
 
-    pub ends_leaving : (s₀ s : List ℕ) → Leaving s₀ s entries h i → s ≡ patched c.setting [] s₀ (records_of c records)
+    pub all_written : (s₀ s : List ℕ) → Writing s₀ s entries h i → s ≡ patched call.setting [] s₀ (rest 0)
     unfolding patched
-    ends_leaving s₀ s leaving = ap (patched c.setting (tops entries h) s) (sym none_left) ∙ leaving
+    all_written s₀ s writing = rw (drop_all i pieces last) at writing.leaves

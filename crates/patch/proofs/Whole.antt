@@ -1,115 +1,90 @@
 -- The call: its three lists of checks one after the other, and what each outcome makes of the answer and of the section.
-use Prim.Native.Nat.{ℕ, ◌≤◌}
-use native.Mathlib.Omega.{arith}
-use mathlib.Core.Bool.{true, false, false≢true}
-use mathlib.Core.List.{List, [], ◌++◌}
-use mathlib.Core.Path.{◌≡◌, refl, sym, ap, ◌∙◌}
-use borrow.Author.Tests.{ltb-false, eq-eqb, ne_eqb}
-use lib.ListN.{length}
+use Rattle.std.proofs.Common.{ℕ, ◌/◌, ◌≤◌, arith, List, [], ◌++◌, ◌≡◌, sym, ap, ◌∙◌, ltb-false, eq-eqb, ne_eqb, length, Result, Ok, Err}
+use Rattle.std.specs.Simd.{first_chunks}
+use Rattle.std.proofs.lemmas.Result.{err_from_is_err_and}
+use Rattle.meaning.specs.Numbers.{pieces}
 use Rattle.meaning.specs.Call.{Call, card64, rows_of, records_of}
 use Rattle.meaning.specs.Checks as C
 use Rattle.meaning.specs.Checks.{Check, answer, first, of_masks, of_records, checks, values_limit}
 use Rattle.meaning.specs.Patch.{call, answer_of, patched}
-use Rattle.lemmas.specs.First.{Every, Passes, Numbered, first-append, first_passed, first_stops, masks_numbered, zero_passes}
-use Rattle.patch.specs.declared.Answer.{Answer}
-use Rattle.patch.specs.declared.Answer.TheVariants.{Patched, Refused}
-use Rattle.patch.specs.Answers.{answer_in, refuses, Proper, Answers, Patches, limit_checks, records_answer}
+use Rattle.lemmas.specs.First.{Every, Passes, first-append, first_passed, masks_numbered}
+use Rattle.lemmas.specs.Pieces.{chunks_cut}
+use Rattle.refusals.specs.Numbers.{numbered}
+use Rattle.refusals.specs.declared.Refused.{Refused}
+use Rattle.patch.specs.declared.Fault.{Fault}
+use Rattle.patch.specs.Answers.{answer_in, Patches, limit_checks, most_records, records_of_pieces, records_answer}
+use Rattle.patch.proofs.Lists.{AllPass, Refuses, Returns, without_record, passed, stopped}
 
--- ---- one list of checks, by what it answered
+-- ---- the lengths passed
 
-some : (r : Answer) → Proper r → refuses r ≡ true → (answer_in r).number ≡ 0 → ⊥
-some (Patched n) p e = absurd (false≢true e)
-some (Refused n q o) p e = p
+module _ (section records values : List ℕ) (limited : AllPass (limit_checks (length section) (length records) (length values))) where
+  limits : Every Passes (limit_checks (length section) (length records) (length values))
+  limits = passed (limit_checks (length section) (length records) (length values)) (omega arith) limited
 
-none : (r : Answer) → refuses r ≡ false → (answer_in r).number ≡ 0
-none (Patched n) e = refl
-none (Refused n q o) e = absurd (false≢true (sym e))
+  pub few_values : length values ≤ values_limit
+  few_values = ltb-false values_limit (length values) limits.1.1.0
 
-stopped : (ks : List Check) (r : Answer) → Answers r (first ks (answer 0 0)) → refuses r ≡ true → (rest : C.Answer) → answer_in r ≡ first ks rest
-stopped ks r a e rest =
-    sym (first_stops ks (answer 0 0) rest (answer_in r) refl (some r a.proper e) a.says)
-
-passes : (ks : List Check) (r : Answer) (z : C.Answer) → Every Numbered ks → Answers r (first ks z) → refuses r ≡ false → Every Passes ks
-passes ks r z k a e = zero_passes ks z k (ap (λ (x : C.Answer). x.number) (sym a.says) ∙ none r e)
-
-numbered_limits : (s r v : ℕ) → Every Numbered (limit_checks s r v)
-numbered_limits s r v = omega arith
+  pub few_records : (chunks : List (List ℕ)) → length chunks ≡ length records / card64.record_bytes → length chunks ≤ most_records
+  few_records chunks e =
+      let few : length records ≤ card64.records_limit = ltb-false card64.records_limit (length records) limits.1.0 in
+      omega arith
 
 -- ---- the call, stage by stage
 
--- What comes in.
-pub record Input : Type 0 where
-  pub section : List ℕ
-  pub records : List ℕ
-  pub values : List ℕ
-  pub address : ℕ
-  pub gp : ℕ
+module _ (section records values : List ℕ) (address gp : ℕ) where
+  abbrev called : Call
+  called = call section values address gp
 
-module _ (i : Input) where
-  abbrev pub called : Call
-  called = call i.section i.values i.address i.gp
+  abbrev lengths : List Check
+  lengths = limit_checks (length section) (length records) (length values)
 
-  abbrev limits_of : List Check
-  limits_of = limit_checks (length i.section) (length i.records) (length i.values)
-
-  abbrev masks_of : List Check
-  masks_of = of_masks 0 (rows_of i.values)
+  abbrev masks : List Check
+  masks = of_masks 0 (rows_of values)
 
   -- What the call comes to, by its answer and what it leaves.
-  abbrev pub Comes : Answer → List ℕ → Type 0
-  Comes r left = Patches i.section i.records i.values i.address i.gp r left
+  abbrev Comes : Result ℕ Fault → List ℕ → Type 0
+  Comes r left = Patches section records values address gp r left
 
-  whole : answer_of called i.records ≡ first limits_of (first masks_of (records_answer called i.records))
+  whole : answer_of called records ≡ first lengths (first masks (records_answer called (pieces card64.record_bytes records)))
   unfolding checks
   whole =
-      first-append limits_of (masks_of ++ of_records called.setting 0 [] (records_of called i.records)) _
-      ∙ ap (first limits_of) (first-append masks_of (of_records called.setting 0 [] (records_of called i.records)) _)
+      first-append lengths (masks ++ of_records called.setting 0 [] (records_of called records)) _
+      ∙ ap (first lengths) (first-append masks (of_records called.setting 0 [] (records_of called records)) _)
 
-  -- a refused call leaves the section
-  refused : (r : Answer) → Proper r → refuses r ≡ true → answer_in r ≡ answer_of called i.records → Comes r i.section
-  refused r p e is =
-      let number : (answer_of called i.records).number ≡ 0 → ⊥ = λ q. some r p e (ap (λ (x : C.Answer). x.number) is ∙ q) in
-      record { answers = record { says = is; proper = p }; leaves = rw (ne_eqb (answer_of called i.records).number 0 number) }
+  -- A refused call leaves the section as it came.
+  refused : (r : Result ℕ Fault) (f : Fault) → answer_in (Err f) ≡ answer_of called records → Returns r f → Comes r section
+  refused r f says out =
+      let some : (answer_of called records).number ≡ 0 → ⊥ = λ z. numbered f.refusal (ap (λ (x : C.Answer). x.number) says ∙ z) in
+      let p = err_from_is_err_and r out in
+      rw (p.1, p.2) (record { answers = says; leaves = rw (ne_eqb (answer_of called records).number 0 some) })
 
-  pub limits_refuse : (r : Answer) → Answers r (first limits_of (answer 0 0)) → refuses r ≡ true → Comes r i.section
-  limits_refuse r limited e = refused r limited.proper e (stopped limits_of r limited e _ ∙ sym whole)
+  pub lengths_refuse : (r : Result ℕ Fault) (f : Refused) → Refuses lengths f → Returns r (without_record f) → Comes r section
+  lengths_refuse r f e out = refused r (without_record f) (sym (whole ∙ stopped lengths f e _)) out
 
-  -- The lengths passed.
-  pub record Limited : Type 0 where
-    pub few_records : length i.records ≤ card64.records_limit
-    pub few_values : length i.values ≤ values_limit
-    pub first_two : (rest : C.Answer) → first limits_of rest ≡ rest
+  module _ (limited : AllPass lengths) where
+    within : answer_of called records ≡ first masks (records_answer called (pieces card64.record_bytes records))
+    within = whole ∙ first_passed lengths _ (limits section records values limited)
 
-  pub limits_pass : (r : Answer) → Answers r (first limits_of (answer 0 0)) → refuses r ≡ false → Limited
-  limits_pass r limited e = go (passes limits_of r (answer 0 0) (numbered_limits (length i.section) (length i.records) (length i.values)) limited e)
-    where
-      go : Every Passes limits_of → Limited
-      go (a, (b, (c, rest))) =
+    pub masks_refuse : (r : Result ℕ Fault) (f : Refused) → Refuses masks f → Returns r (without_record f) → Comes r section
+    masks_refuse r f e out = refused r (without_record f) (sym (within ∙ stopped masks f e _)) out
+
+    -- The masks passed too: the records answer, as the library cuts them.
+    module _ (fit : AllPass masks) (chunks : List (List ℕ)) (cut : chunks ≡ first_chunks card64.record_bytes (length records / card64.record_bytes) records) where
+      they_are : chunks ≡ pieces card64.record_bytes records
+      they_are = cut ∙ chunks_cut _ _ records
+
+      the_records : answer_of called records ≡ records_answer called chunks
+      the_records =
+          within ∙ first_passed masks _ (passed masks (masks_numbered 0 (rows_of values)) fit) ∙ ap (records_answer called) (sym they_are)
+
+      pub records_refuse : (r : Result ℕ Fault) (f : Fault) → answer_in (Err f) ≡ records_answer called chunks → Returns r f → Comes r section
+      records_refuse r f judged out = refused r f (judged ∙ sym the_records) out
+
+      pub accepted : (n : ℕ) (left : List ℕ) → answer 0 n ≡ records_answer called chunks → left ≡ patched called.setting [] section (records_of_pieces called chunks) → Comes (Ok n) left
+      accepted n left judged written =
+          let says : answer 0 n ≡ answer_of called records = judged ∙ sym the_records in
+          let passes : (answer_of called records).number ≡ 0 = ap (λ (x : C.Answer). x.number) (sym says) in
           record {
-            few_records = ltb-false card64.records_limit (length i.records) b;
-            few_values = ltb-false values_limit (length i.values) c;
-            first_two = λ next. first_passed limits_of next (a, (b, (c, rest)));
+            answers = says;
+            leaves = rw (eq-eqb (answer_of called records).number 0 passes, ← they_are) written;
           }
-
-  module _ (limited : Limited) (q : Answer) (masked : Answers q (first masks_of (answer 0 0))) where
-    pub masks_refuse : refuses q ≡ true → Comes q i.section
-    masks_refuse f = refused q masked.proper f (stopped masks_of q masked f _ ∙ sym (whole ∙ limited.first_two _))
-
-    -- The masks passed too: the records answer.
-    pub masks_pass : refuses q ≡ false → answer_of called i.records ≡ records_answer called i.records
-    masks_pass f =
-        whole ∙ limited.first_two _ ∙ first_passed masks_of _ (passes masks_of q (answer 0 0) (masks_numbered 0 (rows_of i.values)) masked f)
-
-  module _ (answers : answer_of called i.records ≡ records_answer called i.records) (j : Answer) (judged : Answers j (records_answer called i.records)) where
-    pub records_refuse : refuses j ≡ true → Comes j i.section
-    records_refuse g = refused j judged.proper g (judged.says ∙ sym answers)
-
-    pub judged_zero : refuses j ≡ false → (records_answer called i.records).number ≡ 0
-    judged_zero g = ap (λ (x : C.Answer). x.number) (sym judged.says) ∙ none j g
-
-    pub records_accepted : refuses j ≡ false → (t : List ℕ) → t ≡ patched called.setting [] i.section (records_of called i.records) → Comes j t
-    records_accepted g t e =
-        record {
-          answers = record { says = judged.says ∙ sym answers; proper = judged.proper };
-          leaves = rw (eq-eqb (answer_of called i.records).number 0 (ap (λ (x : C.Answer). x.number) answers ∙ judged_zero g)) e;
-        }

@@ -1,35 +1,20 @@
 -- The answers of the code by document 01's numbers, and what a call comes to.
-use Rattle.std.specs.Prelude.{ℕ, ◌%◌, Bool, true, false, not, List, [], ◌∷◌, ◌≡◌, eqb, ltb, length}
-use Rattle.meaning.specs.Call.{Call, card64, row_bytes, records_of}
+use Rattle.std.specs.Prelude.{ℕ, ◌/◌, ◌%◌, not, List, [], ◌∷◌, map, ◌≡◌, eqb, ltb, length, Result, Ok, Err}
+use Rattle.meaning.specs.Call.{Call, Record, card64, row_bytes, record_of}
 use Rattle.meaning.specs.Checks as C
 use Rattle.meaning.specs.Checks.{answer, answer_at, check, first, of_records, section_limit, values_limit}
 use Rattle.meaning.specs.Patch.{call, answer_of, section_of}
-use Rattle.patch.specs.declared.Answer.{Answer}
-use Rattle.patch.specs.declared.Answer.TheVariants.{Patched, Refused}
+use Rattle.refusals.specs.Numbers.{number_of}
+use Rattle.patch.specs.declared.Fault.{Fault}
 
 -- Patched: refusal 0, the place is the number of records, and the offset 0. Refused: the number, its place and its offset.
-abbrev pub answer_in : Answer → C.Answer
-answer_in (Patched n) = answer 0 n
-answer_in (Refused n p o) = answer_at n p o
-
--- Whether an answer refuses.
-abbrev pub refuses : Answer → Bool
-refuses (Patched n) = false
-refuses (Refused n p o) = true
-
--- A refusal has a number.
-abbrev pub Proper : Answer → Type 0
-Proper (Patched n) = Unit {0}
-Proper (Refused n p o) = n ≡ 0 → ⊥
-
--- The code's answer is the one by document 01's numbers.
-pub record Answers (r : Answer) (a : C.Answer) : Type 0 where
-  pub says : answer_in r ≡ a
-  pub proper : Proper r
+abbrev pub answer_in : Result ℕ Fault → C.Answer
+answer_in (Ok n) = answer 0 n
+answer_in (Err f) = answer_at (number_of f.refusal) f.place f.offset
 
 -- What a call of patch comes to: its answer, and what it leaves in the section.
-pub record Patches (section records values : List ℕ) (address gp : ℕ) (r : Answer) (left : List ℕ) : Type 0 where
-  pub answers : Answers r (answer_of (call section values address gp) records)
+pub record Patches (section records values : List ℕ) (address gp : ℕ) (r : Result ℕ Fault) (left : List ℕ) : Type 0 where
+  pub answers : answer_in r ≡ answer_of (call section values address gp) records
   pub leaves : left ≡ section_of (call section values address gp) records section
 
 -- The checks of the call's lengths, 1 and 2, as the meaning's list begins.
@@ -42,6 +27,14 @@ limit_checks section records values =
     check 2 2 (not (eqb (values % row_bytes) 0)) ∷
     []
 
+-- At most 2,048 records.
+abbrev pub most_records : ℕ
+most_records = card64.records_limit / card64.record_bytes
+
+-- The records of a call, cut out of the bytes already.
+abbrev pub records_of_pieces : Call → List (List ℕ) → List Record
+records_of_pieces c pieces = map (record_of c.setting.card c.values) pieces
+
 -- The answer of the records' checks, where those of the call passed.
-abbrev pub records_answer : Call → List ℕ → C.Answer
-records_answer c records = first (of_records c.setting 0 [] (records_of c records)) (answer 0 (length (records_of c records)))
+abbrev pub records_answer : Call → List (List ℕ) → C.Answer
+records_answer c pieces = first (of_records c.setting 0 [] (records_of_pieces c pieces)) (answer 0 (length (records_of_pieces c pieces)))

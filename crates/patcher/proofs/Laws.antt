@@ -1,18 +1,19 @@
 -- The output for what was read, over plain numbers and lists.
-use Rattle.std.proofs.Common.{◌≡◌, ℕ, ◌+◌, ◌≤◌, List, ◌++◌, length, take, drop, sym, ap, ◌∙◌, subst, arith}
+use Rattle.std.proofs.Common.{◌≡◌, ℕ, ◌+◌, ◌≤◌, List, ◌++◌, length, take, drop, length-append, sym, ap, ◌∙◌, subst, arith}
 use Rattle.std.proofs.lemmas.List.{length-take-le, take-append-le, take_at}
 use Rattle.std.proofs.Math.Seq.{take-append-add}
-use Rattle.std.specs.Prelude.{Option, Some, None}
+use Rattle.std.specs.Prelude.{Option, Some, None, Ok, Err}
 use Rattle.std.specs.Io.KnownBytes.{Appends}
 use borrow.Author.Tests.{ne_eqb}
 use borrow.Rule.Slice.PartMut.{put_mid, post_of}
 use Rattle.meaning.specs.Checks.{answer}
 use Rattle.meaning.specs.Frames.{written, reading_of, output_for, output_of}
+use Rattle.refusals.specs.Numbers.{number_of, numbered}
 use Rattle.frames.specs.declared.Gathered.{Gathered}
+use Rattle.frames.specs.declared.Fault.{Fault}
 use Rattle.frames.specs.Gathered.{reading_in}
 use Rattle.output.specs.Text.{input_bytes}
 use Rattle.output.proofs.Beyond.{beyond_no_matter}
-use Rattle.patcher.specs.declared.Input.TheVariants.{Bytes}
 use Rattle.patcher.specs.Read.{Takes}
 use Rattle.patcher.specs.Output.{Output, output_patched, Answered}
 
@@ -21,16 +22,22 @@ any_section : (n p : ℕ) (s t : List ℕ) → (n ≡ 0 → ⊥) → written (an
 unfolding written
 any_section n p s t h = simp (ne_eqb n 0 h)
 
-module _ (g : Gathered) (s v q input : List ℕ) (e : reading_in g s v q ≡ reading_of input) (r : ℕ) (came is : List ℕ) where
-  pub refused_output : (g.number ≡ 0 → ⊥) → (w : List ℕ) → is ≡ written (answer g.number g.place) w ++ drop r came →
-      r ≡ length (written (answer g.number g.place) w) → Output r (output_of input) came is
+module _ (s v q input : List ℕ) (r : ℕ) (came is : List ℕ) where
+  pub refused_output : (f : Fault) → reading_in (Err f) s v q ≡ reading_of input → (n : ℕ) → n ≡ number_of f.refused.refusal → (w : List ℕ) →
+      is ≡ written (answer n f.refused.place) w ++ drop r came → r ≡ length (written (answer n f.refused.place) w) → Output r (output_of input) came is
   unfolding output_for
-  refused_output h w b k = rw (← e, ne_eqb g.number 0 h, any_section g.number g.place _ w h) (record { bytes = b; count = k })
+  refused_output f e n m w b k =
+      let h : n ≡ 0 → ⊥ = λ z. numbered f.refused.refusal (sym m ∙ z) in
+      rw (← e, ← m, ne_eqb n 0 h, any_section n f.refused.place _ w h) (record { bytes = b; count = k })
 
-  pub patched_output : g.number ≡ 0 → Output r (output_patched (take g.section s) (take g.records q) (take g.values v) g.address g.gp) came is →
-      Output r (output_of input) came is
+  pub patched_output : (g : Gathered) → reading_in (Ok g) s v q ≡ reading_of input →
+      Output r (output_patched (take g.section s) (take g.records q) (take g.values v) g.address g.gp) came is → Output r (output_of input) came is
   unfolding output_for
-  patched_output h o = rw (← e, h) o
+  patched_output g e o = rw (← e) o
+
+-- it has room in its buffer
+pub output_fits : (r : ℕ) (w came is : List ℕ) → Output r w came is → r ≤ length is
+output_fits r w came is o = let k = o.count in omega (arith, ap length o.bytes, length-append w (drop r came))
 
 -- the output for the first bytes is that for the whole
 pub whole_output : (input : List ℕ) (r : ℕ) (came is : List ℕ) → Output r (output_of input) came is →
@@ -46,7 +53,7 @@ read_more n m k buffer read within fits =
     (take-append-add (take n buffer) (read ++ post_of n k buffer) m ∙ ap (λ (l : List ℕ). take n buffer ++ l) (take-append-le m read (post_of n k buffer) fits))
 
 -- where the output for what was read is written, that for all that was left to read is
-pub answered : (known before after : Option (List ℕ)) (n r : ℕ) (buffer came is : List ℕ) → length buffer ≡ input_bytes → Takes (Bytes n) known buffer →
+pub answered : (known before after : Option (List ℕ)) (n r : ℕ) (buffer came is : List ℕ) → length buffer ≡ input_bytes → Takes n known buffer →
     ((whole : List ℕ) → take input_bytes whole ≡ take n buffer → Output r (output_of whole) came is) → Appends before after (take r is) →
     Answered known before after
 answered None before after n r buffer came is e taken output written = tt

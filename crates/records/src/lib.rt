@@ -3,16 +3,17 @@
 
 #![tactic(auto)]
 
-ghost use Rattle.std.specs.Prelude.{◌≡◌, [], length};
+ghost use Rattle.std.specs.Prelude.{◌≡◌, ◌<◌};
 ghost use Rattle.meaning.specs.Numbers as N;
 ghost use Rattle.meaning.specs.Call as M;
-ghost use Rattle.meaning.specs.Call.{card64};
+ghost use Rattle.meaning.specs.Call.{card64, rows_of, row_of};
 ghost use Rattle.table.specs.Columns.{sum_from, formula_from};
-ghost use Rattle.records.specs.Given.{as_setting, seen, Here};
+ghost use Rattle.records.specs.Given.{setting_in, record_in};
 
-use table::Sum;
+use sizes::{RECORD, ROW};
+use table::{Formula, Sum};
 
-// What a call gives to each of its records: the section's length, the number of value rows, the section's address and GP.
+/// What a call gives to each of its records: the section's length, the number of value rows, the section's address and GP.
 #[derive(Clone, Copy)]
 pub struct Setting {
     pub size: u64,
@@ -21,53 +22,96 @@ pub struct Setting {
     pub gp: u64,
 }
 
-pub fn offset(rela: &[u8]) -> u64
-    requires { length rela.now ≡ card64.record_bytes }
-    ensures { result ≡ M.offset_in card64 rela.now }
-{
-    bytes_le::get_u64(rela, 0)
+/// A record: its bytes, its symbol's row, and what the call gives to it.
+#[derive(Clone, Copy)]
+pub struct Record<'a> {
+    pub bytes: &'a [u8; RECORD],
+    pub row: &'a [u8; ROW],
+    pub setting: &'a Setting,
 }
 
-pub fn rtype(rela: &[u8]) -> u64
-    requires { length rela.now ≡ card64.record_bytes }
-    ensures { result ≡ M.type_in card64 rela.now }
+// One of a record's three numbers.
+fn number(bytes: &[u8; RECORD], k: usize) -> u64
+    requires { k < 3 }
+    ensures { result ≡ M.number_in card64 k bytes.now }
 {
-    bytes_le::get_u64(rela, 8) % 4294967296
+    bytes_le::get(&bytes[8 * k..], 8)
 }
 
-pub fn symbol(rela: &[u8]) -> u64
-    requires { length rela.now ≡ card64.record_bytes }
-    ensures { result ≡ M.symbol_in card64 rela.now }
+fn symbol(bytes: &[u8; RECORD]) -> u64
+    ensures { result ≡ M.symbol_in card64 bytes.now }
 {
-    bytes_le::get_u64(rela, 8) / 4294967296
+    number(bytes, 1) / 4294967296
 }
 
-fn addend(rela: &[u8]) -> u64
-    requires { length rela.now ≡ card64.record_bytes }
-    ensures { result ≡ M.addend_in card64 rela.now }
-{
-    bytes_le::get_u64(rela, 16)
-}
+impl<'a> Record<'a> {
+    /// The record of these bytes, with its symbol's row out of the value bytes.
+    pub fn new(bytes: &'a [u8; RECORD], values: &'a [u8], setting: &'a Setting) -> Record<'a>
+        ensures bytes { result.bytes.now ≡ bytes.now }
+        ensures row { result.row.now ≡ row_of (rows_of values.now) (M.symbol_in card64 bytes.now) }
+        ensures setting { result.setting.now ≡ setting.now }
+    {
+        let row = values::row(values, symbol(bytes));
+        Record {
+            bytes,
+            row,
+            setting,
+        }
+    }
 
-// PC is section address plus offset.
-pub fn pc(rela: &[u8], setting: Setting) -> u64
-    requires { length rela.now ≡ card64.record_bytes }
-    ensures { result ≡ M.PC (as_setting setting) (seen rela.now []) }
-{
-    numbers::plus(setting.address, offset(rela))
-}
+    pub fn offset(self) -> u64
+        ensures { result ≡ M.offset_in card64 self.entry.bytes.now }
+    {
+        number(self.bytes, 0)
+    }
 
-// A value alone, with the addend, or with GP.
-fn sum(rela: &[u8], row: &[u8], setting: Setting, of: Sum) -> u64
-    requires { Here rela.now row.now of.value }
-    ensures { result ≡ M.sum (as_setting setting) (seen rela.now row.now) (sum_from of) }
-{
-    let x = values::value(row, of.value);
-    let with = of.with;
-    match with {
-        0 => x,
-        1 => numbers::plus(x, addend(rela)),
-        _ => numbers::plus(setting.gp, x),
+    pub fn rtype(self) -> u64
+        ensures { result ≡ M.type_in card64 self.entry.bytes.now }
+    {
+        number(self.bytes, 1) % 4294967296
+    }
+
+    pub fn symbol(self) -> u64
+        ensures { result ≡ M.symbol_in card64 self.entry.bytes.now }
+    {
+        symbol(self.bytes)
+    }
+
+    fn addend(self) -> u64
+        ensures { result ≡ M.addend_in card64 self.entry.bytes.now }
+    {
+        number(self.bytes, 2)
+    }
+
+    /// PC is section address plus offset.
+    pub fn pc(self) -> u64
+        ensures { result ≡ M.PC (setting_in self.entry) (record_in self.entry) }
+    {
+        numbers::plus(self.setting.address, self.offset())
+    }
+
+    // A value alone, with the addend, or with GP.
+    fn sum(self, sum: Sum) -> u64
+        ensures { result ≡ M.sum (setting_in self.entry) (record_in self.entry) (sum_from sum) }
+    {
+        match sum {
+            Sum::Only(value) => values::value(self.row, value),
+            Sum::WithA(value) => numbers::plus(values::value(self.row, value), self.addend()),
+            Sum::WithGp(value) => numbers::plus(self.setting.gp, values::value(self.row, value)),
+        }
+    }
+
+    /// A sum itself, or its distance from PC, of its upper part from PC's page, or from PC with its low 32 bits cleared.
+    pub fn formula(self, formula: Formula) -> u64
+        ensures { result ≡ M.formula (setting_in self.entry) (record_in self.entry) (formula_from formula) }
+    {
+        let x = self.sum(formula.sum());
+        match formula {
+            Formula::Whole(_) => x,
+            Formula::LessPc(_) => numbers::minus(x, self.pc()),
+            Formula::Pages(_) => numbers::minus(upper_part(x), numbers::cleared(12, self.pc())),
+            Formula::Far(_) => numbers::minus(x, numbers::cleared(32, self.pc())),
+        }
     }
 }
 
@@ -77,18 +121,4 @@ fn upper_part(target: u64) -> u64
     ensures { result ≡ N.cleared 12 (N.plus 64 target 0x800) }
 {
     numbers::cleared(12, numbers::plus(target, 0x800))
-}
-
-// A sum itself, or its distance from PC, of its upper part from PC's page, or from PC with its low 32 bits cleared.
-pub fn formula(rela: &[u8], row: &[u8], setting: Setting, of: Sum, less: u32) -> u64
-    requires { Here rela.now row.now of.value }
-    ensures { result ≡ M.formula (as_setting setting) (seen rela.now row.now) (formula_from of less) }
-{
-    let x = sum(rela, row, setting, of);
-    match less {
-        0 => x,
-        1 => numbers::minus(x, pc(rela, setting)),
-        2 => numbers::minus(upper_part(x), numbers::cleared(12, pc(rela, setting))),
-        _ => numbers::minus(x, numbers::cleared(32, pc(rela, setting))),
-    }
 }

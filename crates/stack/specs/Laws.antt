@@ -1,18 +1,21 @@
 -- The stack as a list: how long it is, which entries it looks at, and what taking and pushing make of it. Assumes nothing.
-use Rattle.std.specs.Prelude.{◌≡◌, refl, ℕ, zero, suc, ◌+◌, ◌-◌, ◌≤◌, ◌<◌, Bool, true, false, cond, List, [], ◌∷◌, eqb, ltb, ℤ, pos, length, get_or, set, drop}
+use Rattle.std.specs.Prelude.{◌≡◌, refl, ℕ, zero, suc, ◌+◌, ◌-◌, ◌≤◌, ◌<◌, Bool, true, false, cond, List, [], ◌∷◌, eqb, ltb, ℤ, pos, length, get_or, set, drop, Some, None, Result, Ok, Err}
 use Rattle.std.proofs.Common.{sym, ap, ap₂, ◌∙◌, subst, add-one, arith, ltb-true, ltb-false, lt-ltb, le-ltb, ne_eqb, length-set, get_or-set_same, get_or-set_other}
 use Rattle.std.proofs.Math.Path.{subst⁻¹}
 use Rattle.std.proofs.Math.Nat.{sub-zero}
 use Rattle.std.proofs.Math.ListN.{length-drop}
+use Rattle.std.proofs.lemmas.Option.{some_pair_parts}
 use Rattle.meaning.specs.Table.{Operation, dup, assert, not, if_else}
 use Rattle.meaning.specs.Stack.{depth, entry, is_zero, takes, pushes}
 use Rattle.meaning.specs.Checks.{refuses}
-use Rattle.stack.specs.Tops.{taken_number, pushed_number, tops, Fit, Holds, Passes, taken_at, if_room, pushed_at, entries_at, pair_of, operation_stack, operation_refusal, Judges, JudgesOperation, Operates}
+use Rattle.refusals.specs.Numbers.{number_of}
+use Rattle.refusals.specs.declared.Refusal.{Refusal}
+use Rattle.refusals.specs.declared.Refusal.TheVariants.{StackEmpty, StackFull}
+use Rattle.stack.specs.Tops.{taken_number, pushed_number, tops, Fit, Holds, Passes, taken_at, if_room, pushed_at, entries_at, operation_stack, operation_refusal, Judges, JudgesOperation, Operates}
+use Rattle.stack.specs.Pairs.{pair_of}
 use Rattle.stack.specs.declared.Stack.{Stack}
-use Rattle.stack.specs.declared.Taken.TheVariants.{Value, Empty}
-use Rattle.stack.specs.declared.Pushed.TheVariants.{Onto, Full}
-use Rattle.stack.specs.declared.Judged.{Judged}
-use Rattle.stack.specs.declared.Judged.TheVariants as J
+use Rattle.stack.specs.declared.pairs.Pair.{Pair}
+use Rattle.stack.specs.declared.pairs.Pair.TheVariants.{Sub, Sl, Sr, Add, And}
 
 pub tops_none : (s : List ℤ) → tops s 0 ≡ []
 unfolding tops
@@ -34,32 +37,30 @@ pub tops-push : (s : List ℤ) (h : ℕ) (z : ℤ) → h < length s → tops (se
 unfolding tops
 tops-push s h z p = ap₂ ◌∷◌ (get_or-set_same s h z (pos 0) p) (tops-set s h z h (omega arith))
 
--- what holds of each of the five operations with two operands, by number
-pub each : (P : ℕ → Type 0) (n : ℕ) → n < 5 → P 0 → P 1 → P 2 → P 3 → P 4 → P n
-each P zero l a b c d e = a
-each P (suc zero) l a b c d e = b
-each P (suc (suc zero)) l a b c d e = c
-each P (suc (suc (suc zero))) l a b c d e = d
-each P (suc (suc (suc (suc zero)))) l a b c d e = e
-each P (suc (suc (suc (suc (suc n))))) l a b c d e = absurd (omega arith)
+-- what holds of each of the five operations with two operands
+pub each : (P : Pair → Type 0) (p : Pair) → P Sub → P Sl → P Sr → P Add → P And → P p
+each P Sub a b c d e = a
+each P Sl a b c d e = b
+each P Sr a b c d e = c
+each P Add a b c d e = d
+each P And a b c d e = e
 
 -- ---- by what was answered
 
-pub taken_empty : (s : List ℤ) (h : ℕ) → taken_at s h ≡ Empty → h ≡ 0
+pub taken_empty : (s : List ℤ) (h : ℕ) → taken_at s h ≡ None → h ≡ 0
 taken_empty s zero e = refl
-taken_empty s (suc h) e = let q : ◌≡◌ {A = ℕ} 0 1 = cc in absurd (omega arith)
+taken_empty s (suc h) e = cc
 
--- z is on top of the stack of height h, and `below` is left without it
-abbrev pub Took : List ℤ → ℕ → ℤ → Stack → Type 0
-Took s h z below = (tops s h ≡ z ∷ tops s below.height) × (h ≡ suc below.height)
+-- z is on top of the stack of height h, and the one of height k is left without it
+abbrev pub Took : List ℤ → ℕ → ℤ → ℕ → Type 0
+Took s h z k = (tops s h ≡ z ∷ tops s k) × (h ≡ suc k)
 
-pub taken-value : (s : List ℤ) (h : ℕ) {z : ℤ} {below : Stack} → taken_at s h ≡ Value z below → Took s h z below
+pub taken-value : (s : List ℤ) (h : ℕ) {z : ℤ} {k : ℕ} → taken_at s h ≡ Some (z, k) → Took s h z k
 unfolding tops
-taken-value s zero e = let q : ◌≡◌ {A = ℕ} 0 1 = cc in absurd (omega arith)
-taken-value s (suc h) {z} {below} e =
-    let p : record { height = h } ≡ below = cc in
-    let q : get_or s h (pos 0) ≡ z = cc in
-    (ap₂ (λ (y : ℤ) (k : Stack). y ∷ tops s k.height) q p, ap (λ (k : Stack). suc k.height) p)
+taken-value s zero e = absurd cc
+taken-value s (suc h) {z} {k} e =
+    let p = some_pair_parts (get_or s h (pos 0)) z h k e in
+    (ap₂ (λ (y : ℤ) (n : ℕ). y ∷ tops s n) p.0 p.1, ap suc p.1)
 
 -- Taking is refusal 10 exactly where nothing is there, and pushing 11 exactly where the depth is reached.
 pub taken_numbered : (s : List ℤ) (h : ℕ) → taken_number (taken_at s h) ≡ cond (eqb h 0) 10 0
@@ -73,21 +74,19 @@ pushed_numbered h = by (ltb h depth)
     by true = refl
     by false = refl
 
-pub pushed_full : (h : ℕ) → pushed_at h ≡ Full → depth ≤ h
+pub pushed_full : (h : ℕ) → pushed_at h ≡ None → depth ≤ h
 pushed_full h e = by (ltb h depth) refl e
   where
-    by : (b : Bool) → ltb h depth ≡ b → if_room b h ≡ Full → depth ≤ h
-    by true t e = let q : ◌≡◌ {A = ℕ} 0 1 = cc in absurd (omega arith)
+    by : (b : Bool) → ltb h depth ≡ b → if_room b h ≡ None → depth ≤ h
+    by true t e = absurd cc
     by false t e = ltb-false h depth t
 
-pub pushed-onto : (h : ℕ) {above : Stack} → pushed_at h ≡ Onto above → (h < depth) × (above.height ≡ h + 1)
-pushed-onto h {above} e = by (ltb h depth) refl e
+pub pushed-onto : (h : ℕ) {k : ℕ} → pushed_at h ≡ Some k → (h < depth) × (k ≡ h + 1)
+pushed-onto h {k} e = by (ltb h depth) refl e
   where
-    by : (b : Bool) → ltb h depth ≡ b → if_room b h ≡ Onto above → (h < depth) × (above.height ≡ h + 1)
-    by true t e =
-        let q : record { height = h + 1 } ≡ above = cc in
-        (ltb-true h depth t, ap (λ (k : Stack). k.height) (sym q))
-    by false t e = let q : ◌≡◌ {A = ℕ} 0 1 = cc in absurd (omega arith)
+    by : (b : Bool) → ltb h depth ≡ b → if_room b h ≡ Some k → (h < depth) × (k ≡ h + 1)
+    by true t e = (ltb-true h depth t, cc)
+    by false t e = absurd cc
 
 -- the stack after a push that found room
 pub tops-pushed : (s : List ℤ) (h : ℕ) (z : ℤ) → length s ≡ depth → h < depth → tops (entries_at s h z) (h + 1) ≡ z ∷ tops s h
@@ -168,13 +167,14 @@ pub dup_leaves : (st : List ℤ) → 1 ≤ length st → entry st 0 ∷ st ≡ o
 unfolding operation_stack
 dup_leaves st p = ap (λ (su : List ℤ). entry st 0 ∷ su) (top_first st p)
 
-pub pair-leaves : (n : ℕ) (st : List ℤ) → n < 5 →
-    entry (pushes 64 (pair_of n) (entry st 0) (entry st 1) (pos 0)) 0 ∷ drop 2 st ≡ operation_stack (pair_of n) st
+pub pair-leaves : (p : Pair) (st : List ℤ) →
+    entry (pushes 64 (pair_of p) (entry st 0) (entry st 1) (pos 0)) 0 ∷ drop 2 st ≡ operation_stack (pair_of p) st
 unfolding operation_stack
-pair-leaves n st p = each (λ k. entry (pushes 64 (pair_of k) (entry st 0) (entry st 1) (pos 0)) 0 ∷ drop 2 st ≡ operation_stack (pair_of k) st) n p refl refl refl refl refl
+pair-leaves p st =
+    each (λ q. entry (pushes 64 (pair_of q) (entry st 0) (entry st 1) (pos 0)) 0 ∷ drop 2 st ≡ operation_stack (pair_of q) st) p refl refl refl refl refl
 
-pub pair-takes : (n : ℕ) → n < 5 → takes (pair_of n) ≡ 2
-pair-takes n p = each (λ k. takes (pair_of k) ≡ 2) n p refl refl refl refl refl
+pub pair-takes : (p : Pair) → takes (pair_of p) ≡ 2
+pair-takes p = each (λ q. takes (pair_of q) ≡ 2) p refl refl refl refl refl
 
 -- On the stack of this height in the entries: it has the entries that an operation takes, and dup has room.
 pub takes_there : (o : Operation) (s : List ℤ) (h : ℕ) → Passes o s h → takes o ≤ h
@@ -189,16 +189,16 @@ dup_room s h p =
 
 -- ---- judging
 
-pub refused : {n k : ℕ} {st s : List ℤ} → n ≡ k → (k ≡ 0 → ⊥) → Judges n st s (J.Refused k)
-refused e z = record { says = sym e; leaves = z }
+pub refused : {n : ℕ} {st s : List ℤ} (r : Refusal) → n ≡ number_of r → Judges n st s (Err r)
+refused r e = record { says = sym e; leaves = tt }
 
 -- k entries are too few
-pub none_there : (o : Operation) (s : List ℤ) (h k : ℕ) {s' : List ℤ} → h ≡ k → k < takes o → JudgesOperation o s h s' (J.Refused 10)
-none_there o s h k e p = refused (too_few o (tops s h) (rw (length-tops, e) p)) (λ z. omega arith)
+pub none_there : (o : Operation) (s : List ℤ) (h k : ℕ) {s' : List ℤ} → h ≡ k → k < takes o → JudgesOperation o s h s' (Err StackEmpty)
+none_there o s h k e p = refused StackEmpty (too_few o (tops s h) (rw (length-tops, e) p))
 
 -- an operation with room passes as it is carried out
 pub carried : (o : Operation) (s : List ℤ) (h : ℕ) {s' : List ℤ} {after : Stack} → Passes o s h → Operates o s h s' after.height
-    → JudgesOperation o s h s' (J.Passes after)
+    → JudgesOperation o s h s' (Ok after)
 carried o s h p a = record { says = sym p.passes; leaves = a }
 
 -- n entries taken and one pushed is no longer than before
@@ -210,13 +210,13 @@ unfolding operation_refusal
 dup_refusal st p = simp (le-ltb (length st) 1 p, ← dup_leaves st p)
 
 -- a push, by what it answered
-pub no_room : (h : ℕ) {st s : List ℤ} → pushed_at h ≡ Full → Judges (cond (ltb depth (suc h)) 11 0) st s (J.Refused 11)
+pub no_room : (h : ℕ) {st s : List ℤ} → pushed_at h ≡ None → Judges (cond (ltb depth (suc h)) 11 0) st s (Err StackFull)
 no_room h e =
     let p : depth < suc h = omega (arith, pushed_full h e) in
-    refused (ap (λ (b : Bool). cond b 11 0) (lt-ltb depth (suc h) p)) (λ z. omega arith)
+    refused StackFull (ap (λ (b : Bool). cond b 11 0) (lt-ltb depth (suc h) p))
 
-pub room : (s : List ℤ) (h : ℕ) (z : ℤ) {s' : List ℤ} {above : Stack} → Fit s h → pushed_at h ≡ Onto above → s' ≡ entries_at s h z
-    → Judges (cond (ltb depth (suc h)) 11 0) (z ∷ tops s h) s' (J.Passes above)
+pub room : (s : List ℤ) (h : ℕ) (z : ℤ) {s' : List ℤ} {above : Stack} → Fit s h → pushed_at h ≡ Some above.height → s' ≡ entries_at s h z
+    → Judges (cond (ltb depth (suc h)) 11 0) (z ∷ tops s h) s' (Ok above)
 room s h z fit e q =
     let p = pushed-onto h e in
     let r : suc h ≤ depth = omega (arith, p.0) in
@@ -229,7 +229,7 @@ room s h z fit e q =
     }
 
 -- dup, by its push
-pub dup_judges : (s : List ℤ) (h : ℕ) {z : ℤ} {s' : List ℤ} {j : Judged} → z ≡ entry (tops s h) 0 → 1 ≤ h
+pub dup_judges : (s : List ℤ) (h : ℕ) {z : ℤ} {s' : List ℤ} {j : Result Stack Refusal} → z ≡ entry (tops s h) 0 → 1 ≤ h
     → Judges (cond (ltb depth (suc h)) 11 0) (z ∷ tops s h) s' j → JudgesOperation dup s h s' j
 dup_judges s h {z} {s'} {j} e p a =
     let some : 1 ≤ length (tops s h) = rw length-tops p in
@@ -241,7 +241,7 @@ dup_judges s h {z} {s'} {j} e p a =
 -- ---- an operation passes, by the entries that were taken
 
 -- what taking an entry says of the stack
-pub some_there : (s : List ℤ) (h : ℕ) {z : ℤ} {below : Stack} → taken_at s h ≡ Value z below → (h ≡ suc below.height) × (entry (tops s h) 0 ≡ z)
+pub some_there : (s : List ℤ) (h : ℕ) {z : ℤ} {k : ℕ} → taken_at s h ≡ Some (z, k) → (h ≡ suc k) × (entry (tops s h) 0 ≡ z)
 some_there s h e = let t = taken-value s h e in (t.1, ap (λ (st : List ℤ). entry st 0) t.0)
 
 module _ (o : Operation) (s : List ℤ) (h : ℕ) (fit : Fit s h) (enough : takes o ≤ h) (short : length (operation_stack o (tops s h)) ≤ depth) where
@@ -271,6 +271,6 @@ module _ (s : List ℤ) (h : ℕ) (fit : Fit s h) where
   unfolding operation_stack
   choice_short p = fewer 3 (cond (is_zero (entry (tops s h) 2)) (entry (tops s h) 0) (entry (tops s h) 1)) (omega arith) p
 
-  pub pair-short : (n : ℕ) → n < 5 → 2 ≤ h → length (operation_stack (pair_of n) (tops s h)) ≤ depth
-  pair-short n p q =
-      subst (λ (st : List ℤ). length st ≤ depth) (pair-leaves n (tops s h) p) (fewer 2 (entry (pushes 64 (pair_of n) (entry (tops s h) 0) (entry (tops s h) 1) (pos 0)) 0) (omega arith) q)
+  pub pair-short : (p : Pair) → 2 ≤ h → length (operation_stack (pair_of p) (tops s h)) ≤ depth
+  pair-short p q =
+      subst (λ (st : List ℤ). length st ≤ depth) (pair-leaves p (tops s h)) (fewer 2 (entry (pushes 64 (pair_of p) (entry (tops s h) 0) (entry (tops s h) 1) (pos 0)) 0) (omega arith) q)

@@ -1,28 +1,24 @@
 -- The stack as a list, the top first, and what taking, pushing and the operations do with it.
-use Rattle.std.specs.Prelude.{◌≡◌, ℕ, zero, suc, ◌+◌, ◌≤◌, Bool, true, false, cond, List, [], ◌∷◌, ◌++◌, ltb, ℤ, pos, length, get_or, set, drop}
-use Rattle.meaning.specs.Table.{Operation, sub, sl, sr, add, and}
+use Rattle.std.specs.Prelude.{◌≡◌, ℕ, zero, suc, ◌+◌, ◌≤◌, Bool, true, false, cond, List, [], ◌∷◌, ◌++◌, ltb, ℤ, pos, length, get_or, set, drop, Option, Some, None, Result, Ok, Err}
+use Rattle.meaning.specs.Table.{Operation}
 use Rattle.meaning.specs.Stack.{depth, entry, takes, pushes}
 use Rattle.meaning.specs.Checks.{refuses}
-use Rattle.stack.specs.declared.Taken.{Taken}
-use Rattle.stack.specs.declared.Taken.TheVariants.{Value, Empty}
-use Rattle.stack.specs.declared.Pushed.{Pushed}
-use Rattle.stack.specs.declared.Pushed.TheVariants.{Onto, Full}
-use Rattle.stack.specs.declared.Judged.{Judged}
-use Rattle.stack.specs.declared.Judged.TheVariants as J
+use Rattle.refusals.specs.Numbers.{refusal_in}
+use Rattle.refusals.specs.declared.Refusal.{Refusal}
+use Rattle.stack.specs.declared.Stack.{Stack}
 
--- ---- the enums by document 01's numbers of refusal, 0 for none
+-- ---- the answers by document 01's numbers of refusal, 0 for none
 
-abbrev pub taken_number : Taken → ℕ
-taken_number (Value z below) = 0
-taken_number Empty = 10
+abbrev pub taken_number : {A : Type 0} → Option A → ℕ
+taken_number (Some taken) = 0
+taken_number None = 10
 
-abbrev pub pushed_number : Pushed → ℕ
-pushed_number (Onto above) = 0
-pushed_number Full = 11
+abbrev pub pushed_number : {A : Type 0} → Option A → ℕ
+pushed_number (Some above) = 0
+pushed_number None = 11
 
-abbrev pub judged_number : Judged → ℕ
-judged_number (J.Passes after) = 0
-judged_number (J.Refused n) = n
+abbrev pub judged_number : Result Stack Refusal → ℕ
+judged_number judged = refusal_in judged
 
 -- ---- the stack in the entries
 
@@ -41,17 +37,25 @@ pub record Holds (st entries : List ℤ) (height : ℕ) : Type 0 where
   pub is : tops entries height ≡ st
   pub fit : Fit entries height
 
--- ---- taking and pushing
+-- ---- taking and pushing, the stack being told by its height
 
-abbrev pub taken_at : List ℤ → ℕ → Taken
-taken_at s zero = Empty
-taken_at s (suc h) = Value (get_or s h (pos 0)) (record { height = h })
+abbrev pub taken_in : Option (ℤ × Stack) → Option (ℤ × ℕ)
+taken_in None = None
+taken_in (Some (z, below)) = Some (z, below.height)
 
-abbrev pub if_room : Bool → ℕ → Pushed
-if_room true h = Onto (record { height = h + 1 })
-if_room false h = Full
+abbrev pub taken_at : List ℤ → ℕ → Option (ℤ × ℕ)
+taken_at s zero = None
+taken_at s (suc h) = Some (get_or s h (pos 0), h)
 
-abbrev pub pushed_at : ℕ → Pushed
+abbrev pub pushed_in : Option Stack → Option ℕ
+pushed_in None = None
+pushed_in (Some above) = Some above.height
+
+abbrev pub if_room : Bool → ℕ → Option ℕ
+if_room true h = Some (h + 1)
+if_room false h = None
+
+abbrev pub pushed_at : ℕ → Option ℕ
 pushed_at h = if_room (ltb h depth) h
 
 abbrev pub entries_at : List ℤ → ℕ → ℤ → List ℤ
@@ -59,21 +63,17 @@ entries_at s h z = cond (ltb h depth) (set s h z) s
 
 -- ---- judging
 
--- The stack after is in the entries, where judging passes; a refusal has a number.
-abbrev pub Stands : List ℤ → List ℤ → Judged → Type 0
-Stands st entries (J.Passes after) = Holds st entries after.height
-Stands st entries (J.Refused n) = n ≡ 0 → ⊥
+-- The stack after is in the entries, where judging passes.
+abbrev pub Stands : List ℤ → List ℤ → Result Stack Refusal → Type 0
+Stands st entries (Ok after) = Holds st entries after.height
+Stands st entries (Err r) = Unit {0}
 
 -- What judging answers where the refusal is n, and the stack after is st where there is none.
-pub record Judges (n : ℕ) (st entries : List ℤ) (judged : Judged) : Type 0 where
+pub record Judges (n : ℕ) (st entries : List ℤ) (judged : Result Stack Refusal) : Type 0 where
   pub says : judged_number judged ≡ n
   pub leaves : Stands st entries judged
 
 -- ---- the operations
-
--- sub, sl, sr, add and and, by number
-abbrev pub pair_of : ℕ → Operation
-pair_of n = get_or (sub ∷ sl ∷ sr ∷ add ∷ []) n and
 
 -- the stack after an operation, and its refusal
 unfoldable pub operation_stack : Operation → List ℤ → List ℤ
@@ -93,5 +93,5 @@ abbrev pub Operates : Operation → List ℤ → ℕ → List ℤ → ℕ → Ty
 Operates o s h s' h' = Holds (operation_stack o (tops s h)) s' h'
 
 -- What judging it answers.
-abbrev pub JudgesOperation : Operation → List ℤ → ℕ → List ℤ → Judged → Type 0
+abbrev pub JudgesOperation : Operation → List ℤ → ℕ → List ℤ → Result Stack Refusal → Type 0
 JudgesOperation o s h s' judged = Judges (operation_refusal o (tops s h)) (operation_stack o (tops s h)) s' judged

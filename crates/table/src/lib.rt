@@ -2,89 +2,95 @@
 
 #![tactic(auto)]
 
-// The values of a symbol, by their mask bits.
-pub const S: u32 = 0;
+ghost use Rattle.std.specs.Prelude.{◌≡◌, ◌+◌, ◌≤◌, ◌<◌};
 
-pub const G: u32 = 1;
-
-pub const PLT: u32 = 2;
-
-pub const T: u32 = 3;
-
-pub const IE: u32 = 4;
-
-pub const GD: u32 = 5;
-
-// The sums: a value alone, with the addend, or with GP.
-#[derive(Clone, Copy)]
-pub struct Sum {
-    pub value: u32,
-    pub with: u32,
+/// The values of a symbol.
+#[derive(Clone, Copy, Debug, PartialEq, Eq)]
+pub enum Value {
+    S,
+    G,
+    Plt,
+    T,
+    Ie,
+    Gd,
 }
 
-pub const NOTHING: u32 = 0;
+impl Value {
+    ghost use Rattle.meaning.specs.Call.{bit};
+    ghost use Rattle.table.specs.Columns.{value_from};
 
-pub const ADDEND: u32 = 1;
+    /// Its bit of a row's mask.
+    pub fn bit(self) -> u32
+        ensures bit { result ≡ bit (value_from self) }
+        ensures of_six { result < 6 }
+    {
+        self as u32
+    }
+}
 
-pub const GP: u32 = 2;
+/// A sum: a value alone, with the addend, or with GP.
+#[derive(Clone, Copy, Debug, PartialEq, Eq)]
+pub enum Sum {
+    Only(Value),
+    WithA(Value),
+    WithGp(Value),
+}
 
-pub const S_PLUS_A: Sum = Sum {
-    value: S,
-    with: ADDEND,
-};
+impl Sum {
+    ghost use Rattle.meaning.specs.Call.{value_of};
+    ghost use Rattle.table.specs.Columns.{value_from, sum_from};
 
-pub const ONLY_G: Sum = Sum {
-    value: G,
-    with: NOTHING,
-};
+    /// The value that it uses.
+    pub fn value(self) -> Value
+        ensures { value_from result ≡ value_of (sum_from self) }
+    {
+        match self {
+            Sum::Only(value) | Sum::WithA(value) | Sum::WithGp(value) => value,
+        }
+    }
+}
 
-pub const ONLY_PLT: Sum = Sum {
-    value: PLT,
-    with: NOTHING,
-};
+pub const S_PLUS_A: Sum = Sum::WithA(Value::S);
 
-pub const ONLY_T: Sum = Sum {
-    value: T,
-    with: NOTHING,
-};
+pub const GP_PLUS_G: Sum = Sum::WithGp(Value::G);
 
-pub const ONLY_IE: Sum = Sum {
-    value: IE,
-    with: NOTHING,
-};
+pub const GP_PLUS_IE: Sum = Sum::WithGp(Value::Ie);
 
-pub const ONLY_GD: Sum = Sum {
-    value: GD,
-    with: NOTHING,
-};
+pub const GP_PLUS_GD: Sum = Sum::WithGp(Value::Gd);
 
-pub const GP_PLUS_G: Sum = Sum { value: G, with: GP };
+/// A formula: a sum itself, less PC, its upper part less PC's page, or less PC with its low 32 bits cleared.
+#[derive(Clone, Copy, Debug, PartialEq, Eq)]
+pub enum Formula {
+    Whole(Sum),
+    LessPc(Sum),
+    Pages(Sum),
+    Far(Sum),
+}
 
-pub const GP_PLUS_IE: Sum = Sum {
-    value: IE,
-    with: GP,
-};
+impl Formula {
+    ghost use Rattle.meaning.specs.Call.{sum_of};
+    ghost use Rattle.table.specs.Columns.{sum_from, formula_from};
 
-pub const GP_PLUS_GD: Sum = Sum {
-    value: GD,
-    with: GP,
-};
+    /// The sum that it is made of.
+    pub fn sum(self) -> Sum
+        ensures { sum_from result ≡ sum_of (formula_from self) }
+    {
+        match self {
+            Formula::Whole(sum) | Formula::LessPc(sum) | Formula::Pages(sum) | Formula::Far(sum) =>
+                sum,
+        }
+    }
+}
 
-// What is made of a sum: itself, less PC, its upper part less PC's page, or less PC with its low 32 bits cleared.
-pub const WHOLE: u32 = 0;
-
-pub const LESS_PC: u32 = 1;
-
-pub const PAGES: u32 = 2;
-
-pub const FAR: u32 = 3;
-
-// A part of a field: `many` bits, from the value's bit `low` to the word's bit `at`.
+/// A part of a field: `many` bits, from the value's bit `low` to the word's bit `at`.
 #[derive(Clone, Copy)]
 pub struct Part {
     pub low: u32,
     pub many: u32,
     pub at: u32,
+    pub ghost from_value: { low < 64 },
+    pub ghost some: { 1 ≤ many },
+    pub ghost to_word: { many + at ≤ 32 },
 }
 
 // [31..12] to [24..5], [11..0] to [21..10], [51..32] to [24..5], [63..52] to [21..10]
@@ -156,62 +162,66 @@ pub const HI10: Part = Part {
     at: 0,
 };
 
-// The accepted values: n-bit signed numbers, n-bit unsigned ones, or of the signed ones the multiples of 4.
-#[derive(Clone, Copy)]
-pub struct Range {
-    pub sign: u32,
-    pub bits: u32,
+/// How the accepted values are taken: as signed numbers, as unsigned ones, or of the signed ones the multiples of 4.
+#[derive(Clone, Copy, Debug, PartialEq, Eq)]
+pub enum Sign {
+    Signed,
+    Unsigned,
+    MultipleOf4,
 }
 
-pub const SIGNED: u32 = 0;
-
-pub const UNSIGNED: u32 = 1;
-
-pub const MULTIPLE_OF_4: u32 = 2;
+/// The accepted values: the numbers of so many bits.
+#[derive(Clone, Copy)]
+pub struct Range {
+    pub sign: Sign,
+    pub bits: u32,
+    pub ghost some: { 1 ≤ bits },
+    pub ghost below_top: { bits < 63 },
+}
 
 // -16 to 15, -2,048 to 2,047, -32,768 to 32,767, -524,288 to 524,287
 pub const SIGNED5: Range = Range {
-    sign: SIGNED,
+    sign: Sign::Signed,
     bits: 5,
 };
 
 pub const SIGNED12: Range = Range {
-    sign: SIGNED,
+    sign: Sign::Signed,
     bits: 12,
 };
 
 pub const SIGNED16: Range = Range {
-    sign: SIGNED,
+    sign: Sign::Signed,
     bits: 16,
 };
 
 pub const SIGNED20: Range = Range {
-    sign: SIGNED,
+    sign: Sign::Signed,
     bits: 20,
 };
 
 // 0 to 4,095, 0 to 4,294,967,295
 pub const UNSIGNED12: Range = Range {
-    sign: UNSIGNED,
+    sign: Sign::Unsigned,
     bits: 12,
 };
 
 pub const UNSIGNED32: Range = Range {
-    sign: UNSIGNED,
+    sign: Sign::Unsigned,
     bits: 32,
 };
 
 pub const SIGNED18_BY4: Range = Range {
-    sign: MULTIPLE_OF_4,
+    sign: Sign::MultipleOf4,
     bits: 18,
 };
 
 pub const SIGNED23_BY4: Range = Range {
-    sign: MULTIPLE_OF_4,
+    sign: Sign::MultipleOf4,
     bits: 23,
 };
 
 pub const SIGNED28_BY4: Range = Range {
-    sign: MULTIPLE_OF_4,
+    sign: Sign::MultipleOf4,
     bits: 28,
 };

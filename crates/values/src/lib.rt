@@ -3,113 +3,95 @@
 
 #![tactic(auto)]
 
-ghost use Rattle.std.specs.Prelude.{◌≡◌, ◌+◌, ◌*◌, ◌≤◌, ◌<◌, length};
-ghost use Rattle.meaning.specs.Call.{u64, row_bytes, rows_of, row_of, no_row};
+ghost use Rattle.std.specs.Prelude.{◌≡◌, ◌≤◌, ◌<◌, ltb, length, bit_or, fold, position};
+ghost use Rattle.meaning.specs.Call.{rows_of, row_of, no_row, mask, value_in, bit};
 ghost use Rattle.meaning.specs.Checks as C;
-ghost use Rattle.values.specs.Values.{fixed_rows, refusal_at, masks_answer};
+ghost use Rattle.refusals.specs.Numbers.{refusal_in};
+ghost use Rattle.table.specs.Columns.{value_from};
+ghost use Rattle.values.specs.Values.{refusal_at, masks_answer};
 
+use refusals::{Refusal, Refused};
 use sizes::*;
+use table::Value;
 
-// Whether every mask is at most 63, or the first row whose mask is above: refusal 3.
-#[derive(Clone, Copy)]
-pub enum Masks {
-    Fit,
-    Above(u32),
-}
+// Symbol 0's row, which stands in no table: S is present and 0, and nothing else is.
+static SYMBOL_0: [u8; ROW] = [
+    1, 0, 0, 0, 0, 0, 0, 0, 0, 0, 0, 0, 0, 0, 0, 0, 0, 0, 0, 0, 0, 0, 0, 0, 0, 0, 0, 0, 0, 0, 0, 0,
+    0, 0, 0, 0, 0, 0, 0, 0, 0, 0, 0, 0, 0, 0, 0, 0, 0, 0, 0, 0, 0, 0, 0, 0,
+];
 
-// The bytes of two rows.
-pub const FIXED: usize = 2 * ROW;
+// The row of a symbol past the rows: nothing is present.
+static NO_ROW: [u8; ROW] = [0; ROW];
 
-// Two rows that stand in no table: symbol 0's, which has S present and 0, and one of nothing for a symbol past the rows.
-#[tactic(auto, unfolding(crate::specs::Values::fixed_rows, meaning::specs::Numbers::bytes_of))]
-pub fn fixed_rows() -> [u8; FIXED]
-    ensures { result ≡ fixed_rows }
-{
-    let mut rows = [0u8; FIXED];
-    rows[0] = 1;
-    rows
-}
-
-// The row of a symbol: the part of the table where it stands, or one of the fixed two.
-#[tactic(auto, using(crate::proofs::Laws::rows))]
-pub fn row<'a>(values: &'a [u8], fixed: &'a [u8], symbol: u64) -> &'a [u8]
-    requires { fixed.now ≡ fixed_rows }
+// The row of a symbol: the part of the table where it stands, or one of the two above.
+#[tactic(auto, using(crate::proofs::Laws::row_found), unfolding(meaning::specs::Numbers::bytes_of))]
+pub fn row(values: &[u8], symbol: u64) -> &[u8; ROW]
     ensures { result.now ≡ row_of (rows_of values.now) symbol }
 {
-    if symbol == 0 {
-        return &fixed[0..ROW];
-    }
-    let before = symbol - 1;
-    let rows = (values.len() / ROW) as u64;
-    if rows <= before {
-        return &fixed[ROW..FIXED];
-    }
-    let at = ROW * (before as usize);
-    let end = at + ROW;
-    &values[at..end]
+    let Some(before) = symbol.checked_sub(1) else {
+        return &SYMBOL_0;
+    };
+    let (rows, _) = values.as_chunks::<ROW>();
+    rows.get(before as usize).unwrap_or(&NO_ROW)
 }
 
-// Refusal 7 where the value of a mask bit is absent from the row, or 6 where the symbol has no row, which has nothing present; else 0.
-pub fn refusal(row: &[u8], bit: u32, rows: u64, symbol: u64) -> u32
-    requires { (bit < 6) × (length row.now ≡ row_bytes) × (rows < symbol → row.now ≡ no_row) }
-    ensures { result ≡ refusal_at row.now bit rows symbol }
+fn mask(row: &[u8; ROW]) -> u64
+    ensures { result ≡ mask row.now }
 {
-    let mask = bytes_le::get_u64(row, 0);
-    if (mask >> bit) % 2 == 1 {
-        return 0;
-    }
-    if rows < symbol { 6 } else { 7 }
+    bytes_le::get(row, 8)
 }
 
-// The word of a row that a mask bit stands for.
-pub fn value(row: &[u8], bit: u32) -> u64
-    requires { (bit < 6) × (length row.now ≡ row_bytes) }
-    ensures { result ≡ u64 row.now (8 * (1 + bit)) }
+// Refusal 7 where a value is absent from the row, or 6 where the symbol has no row, which has nothing present.
+#[tactic(auto, using(crate::proofs::Laws::none_present))]
+pub fn check_value(row: &[u8; ROW], value: Value, rows: u64, symbol: u64) -> Result<(), Refusal>
+    requires { rows < symbol → row.now ≡ no_row }
+    ensures { refusal_in result ≡ refusal_at row.now (bit (value_from value)) rows symbol }
 {
-    let word = 8 * (1 + bit as usize);
-    bytes_le::get_u64(row, word)
+    if (mask(row) >> value.bit()) % 2 == 1 {
+        return Ok(());
+    }
+    if rows < symbol {
+        return Err(Refusal::NoSuchSymbol);
+    }
+    Err(Refusal::ValueAbsent)
+}
+
+// The word of a row that stands for a value.
+pub fn value(row: &[u8; ROW], value: Value) -> u64
+    ensures { result ≡ value_in (value_from value) row.now }
+{
+    let word = 8 * (1 + value.bit() as usize);
+    bytes_le::get(&row[word..], 8)
 }
 
 // All the masks or-ed: where that is at most 63, each of them is.
-#[tactic(auto, using(crate::proofs::Rows::masks, std::proofs::lemmas::Nat::le_or_l, std::proofs::lemmas::Nat::le_or_r))]
-fn all_masks(values: &[u8]) -> u64
-    ensures { result ≤ C.mask_limit → C.answer 0 0 ≡ C.first (C.of_masks 0 (rows_of values.now)) (C.answer 0 0) }
+fn all_masks(rows: &[[u8; ROW]]) -> u64
+    ensures { result ≡ fold (λ all row. bit_or all (mask row)) 0 rows.now }
 {
-    let rows = values.len() / ROW;
-    let mut all: u64 = 0;
-    let mut i = 0;
-    while i < rows {
-        let at = ROW * i;
-        all = all | bytes_le::get_u64(values, at);
-        i += 1;
-    }
-    all
+    rows.iter().fold(0, |all, row| all | mask(row))
 }
 
-#[tactic(auto, using(crate::proofs::Rows::masks))]
-fn first_above(values: &[u8]) -> Masks
-    requires { length values.now ≤ C.values_limit }
-    ensures { masks_answer result ≡ C.first (C.of_masks 0 (rows_of values.now)) (C.answer 0 0) }
+fn first_above(rows: &[[u8; ROW]]) -> Option<usize>
+    ensures { result ≡ position (λ row. ltb C.mask_limit (mask row)) rows.now }
 {
-    let rows = values.len() / ROW;
-    let mut i = 0;
-    while i < rows {
-        let at = ROW * i;
-        if bytes_le::get_u64(values, at) > MASK_LIMIT {
-            return Masks::Above(i as u32);
-        }
-        i += 1;
-    }
-    Masks::Fit
+    rows.iter().position(|row| mask(row) > MASK_LIMIT)
 }
 
 // Refusal 3: the first row whose mask is above 63. It is looked for only where there is one.
-pub fn check_masks(values: &[u8]) -> Masks
+#[tactic(auto, using(crate::proofs::Laws::masks_answered))]
+pub fn check_masks(values: &[u8]) -> Result<(), Refused>
     requires { length values.now ≤ C.values_limit }
     ensures { masks_answer result ≡ C.first (C.of_masks 0 (rows_of values.now)) (C.answer 0 0) }
 {
-    if all_masks(values) <= MASK_LIMIT {
-        return Masks::Fit;
+    let (rows, _) = values.as_chunks::<ROW>();
+    if all_masks(rows) <= MASK_LIMIT {
+        return Ok(());
     }
-    first_above(values)
+    match first_above(rows) {
+        None => Ok(()),
+        Some(row) => Err(Refused {
+            refusal: Refusal::BadMask,
+            place: row as u32,
+        }),
+    }
 }

@@ -1,24 +1,23 @@
--- What the writers leave, over plain numbers and lists, and what the checks that a judged record passed say. Assumes nothing.
-use Rattle.std.proofs.Common.{◌≡◌, ℕ, zero, suc, ◌+◌, ◌*◌, ◌≤◌, ◌<◌, false, ℤ, List, [], map, length, T, leb, refl, sym, ap, ◌∙◌, arith, leb→le, ltb-false}
-use Rattle.std.proofs.Math.Dec.{eqb-suc-zero}
-use types.Run.{OneOf}
+-- What the writers leave; which class a type is of, by its number, and what each class leaves alone; and what a record may do that no check refuses.
+use Rattle.std.proofs.Common.{◌≡◌, ℕ, suc, ◌*◌, ◌≤◌, ◌<◌, ◌⊎◌, Bool, false, cond, ◌&&◌, ◌||◌, ℤ, List, [], length, eqb, ltb, leb, refl, sym, ap, ◌∙◌, subst, inl, arith, ltb-false}
 use Rattle.meaning.specs.Numbers.{bytes_of, plus, minus}
-use Rattle.meaning.specs.Table.{Semantics, unnamed, idle, loaders, push, operation, word, bytes, stack, of, Formula, Operation, semantics}
+use Rattle.meaning.specs.Table.{Semantics, push, operation, Formula, Operation, table, semantics}
 use Rattle.meaning.specs.Call as M
-use Rattle.meaning.specs.Call.{Record, card64, offset_in}
-use Rattle.meaning.specs.Stack.{depth, entry, takes, taken}
+use Rattle.meaning.specs.Call.{card64, offset_in}
+use Rattle.meaning.specs.Stack.{depth, entry, takes, taken, after}
 use Rattle.meaning.specs.Checks.{writes, outside}
 use Rattle.meaning.specs.Patch.{effect}
 use Rattle.lemmas.specs.Operations.{refuses-nothing}
-use Rattle.lemmas.specs.Passed.{Passed, not_refused}
+use Rattle.lemmas.specs.Passed as P
+use Rattle.lemmas.specs.Passed.{Passed, refusal_of}
 use Rattle.lemmas.specs.Modulo.{bytes_minus}
-use Rattle.table.specs.Keys.{same_keys, class}
-use Rattle.records.specs.declared.Setting.{Setting}
-use Rattle.records.specs.Given.{as_setting, seen, Here}
-use Rattle.stack.specs.Tops.{tops, Fit, Passes, operation_stack}
+use Rattle.lemmas.specs.Look.{every, found}
+use Rattle.table.specs.Keys.{class}
+use Rattle.records.specs.declared.Record.{Record}
+use Rattle.records.specs.Given.{setting_in, record_in}
+use Rattle.stack.specs.Tops.{tops, operation_stack, operation_refusal}
 use Rattle.stack.specs.Laws as S
 use Rattle.stack.specs.Laws.{length-tops}
-use Rattle.writers.specs.Written.{Popping, Judged, Writes}
 
 -- Adding what x lacks to 2 ^ 64 has the low bytes of subtracting x.
 pub bytes_less : (n x old z : ℕ) → n ≤ 8 → z ≡ minus 64 0 x → bytes_of n (minus (8 * n) old x) ≡ bytes_of n (plus 64 z old)
@@ -26,80 +25,65 @@ bytes_less n x old z few e =
     let turned : minus 64 old x ≡ plus 64 z old = omega arith in
     sym (bytes_minus n old x few) ∙ ap (bytes_of n) turned
 
--- ---- an arm, by its keys
+-- ---- the types of a match
 
--- n bytes, 1 or more, are inside a section where there was no refusal 8 of as many.
-in_section : (size at n : ℕ) {m : ℕ} → 1 ≤ n → n ≡ m → outside size at m ≡ false → at + n ≤ size
-in_section size at zero some e h = absurd (omega arith)
-in_section size at (suc n) some e h = ltb-false size (at + suc n) (rw eqb-suc-zero at (ap (outside size at) e ∙ h))
+-- The class of each type that has one, by its number.
+abbrev between : ℕ → ℕ → ℕ → Bool
+between low high t = leb low t && leb t high
 
--- The bytes that an arm asks for are inside where each of its types writes so many.
-pub inside : (rela section : List ℕ) (type : ℕ) → outside (length section) (offset_in card64 rela) (writes (semantics type)) ≡ false → (n : ℕ) (ks : List ℕ) →
-    OneOf ks type → T (leb 1 n) → map (λ k. n) ks ≡ map (λ k. writes (semantics k)) ks → offset_in card64 rela + n ≤ length section
-inside rela section type within n ks key some e =
-    in_section (length section) (offset_in card64 rela) n (leb→le 1 n some) (same_keys (λ k. writes (semantics k)) n ks type key e) within
+abbrev class_at : ℕ → ℕ
+class_at t =
+    cond (between 22 37 t) 4
+    (cond (between 38 46 t) 3
+    (cond (between 64 98 t) 2
+    (cond (between 1 2 t || between 47 56 t || eqb t 99) 1 0)))
 
--- A type that does nothing leaves the section.
-pub nothing : (c : M.Setting) (r : Record) (d : Semantics) (section : List ℕ) → class d ≤ 0 → section ≡ effect c r d [] section
-nothing c r unnamed section h = refl
-nothing c r idle section h = refl
-nothing c r loaders section h = refl
-nothing c r (push f) section h = absurd (omega arith)
-nothing c r (operation o) section h = absurd (omega arith)
-nothing c r (word stack parts range) section h = absurd (omega arith)
-nothing c r (word (of f) parts range) section h = absurd (omega arith)
-nothing c r (bytes way n f) section h = absurd (omega arith)
+pub classed : (t : ℕ) → (class (semantics t) ≤ 0) ⊎ (class (semantics t) ≡ class_at t)
+unfolding every table
+classed t =
+    found (λ d. (class d ≤ 0) ⊎ (class d ≡ class_at t)) (λ k d. eqb (class d) 0 || eqb (class d) (class_at k)) table t tt
+    (λ d h. grind arith) (inl (omega arith))
 
--- ---- a record that was judged, with the stack before it
+-- A type of no class leaves the section.
+pub nothing : (c : M.Setting) (r : M.Record) (d : Semantics) (section : List ℕ) → class d ≤ 0 → effect c r d [] section ≡ section
+nothing c r d section h = grind arith
 
-module _ {setting : Setting} {rela row : List ℕ} {d : Semantics} {entries : List ℤ} {height : ℕ} {section : List ℕ} (judged : Judged setting rela row d entries height section) where
-  checked : Passed (as_setting setting) (seen rela row) d (tops entries height)
-  checked = not_refused (as_setting setting) (seen rela row) d (tops entries height) judged.passes
+-- A direct type writes what it writes with no stack, and leaves the stack.
+pub direct : (c : M.Setting) (r : M.Record) (d : Semantics) (st : List ℤ) (section : List ℕ) → class d ≤ 2 →
+    (effect c r d st section ≡ effect c r d [] section) × (after c r d st ≡ st)
+direct c r d st section h = grind arith
 
-  pub placed : outside (length section) (offset_in card64 rela) (writes d) ≡ false
-  placed = ap (λ (size : ℕ). outside size (offset_in card64 rela) (writes d)) (sym judged.size) ∙ checked.inside
+-- ---- a record that no check refuses, with the stack of this height in the entries before it
 
-  -- A word with the entry on top: the entry and the word's place are there.
-  pub popping : 4 ≡ writes d → 1 ≡ taken d → Popping rela entries height section
-  popping four one =
+-- What it may do.
+pub record May (rela : Record) (d : Semantics) (entries : List ℤ) (height : ℕ) : Type 0 where
+  pub write : outside rela.setting.now.size (offset_in card64 rela.bytes.now) (writes d) ≡ false
+  pub take : taken d ≤ height
+  pub push : (f : Formula) → d ≡ push f → height < depth
+  pub operate : (o : Operation) → d ≡ operation o → operation_refusal o (tops entries height) ≡ 0
+
+module _ (rela : Record) (d : Semantics) (st : List ℤ) (p : Passed (setting_in rela) (record_in rela) d st) where
+  pushing : (f : Formula) → d ≡ push f → length st < depth
+  pushing f is = ltb-false depth (suc (length st)) (subst (λ d. ltb depth (length (after (setting_in rela) (record_in rela) d st)) ≡ false) is p.room)
+
+  operating : (o : Operation) → d ≡ operation o → operation_refusal o st ≡ 0
+  unfolding operation_stack
+  operating o is =
+      let q : Passed (setting_in rela) (record_in rela) (operation o) st = subst (λ d. Passed (setting_in rela) (record_in rela) d st) is p in
+      S.not_refused o st (ltb-false (length st) (takes o) q.enough) (ltb-false depth (length (operation_stack o st)) q.room)
+      ∙ refuses-nothing 64 o (entry st 0) q.count q.not_zero
+
+-- The first part of the conclusion says nothing: it shows the check the call to match.
+pub not_refused : (rela : Record) (d : Semantics) (entries : List ℤ) (height : ℕ) → refusal_of (setting_in rela) (record_in rela) d (tops entries height) ≡ 0 →
+    (refusal_of (setting_in rela) (record_in rela) d (tops entries height) ≡ refusal_of (setting_in rela) (record_in rela) d (tops entries height))
+    × May rela d entries height
+not_refused rela d entries height e =
+    let p = P.not_refused (setting_in rela) (record_in rela) d (tops entries height) e in (
+      refl,
       record {
-        whole = judged.whole.whole;
-        some = rw length-tops at (ltb-false (length (tops entries height)) 1 (rw one checked.enough));
-        fit = judged.fit;
-        inside = in_section (length section) (offset_in card64 rela) 4 (omega arith) four placed;
-      }
-
--- A push: there is room.
-pub pushing : {setting : Setting} {rela row : List ℕ} {f : Formula} {entries : List ℤ} {height : ℕ} {section : List ℕ} →
-    Judged setting rela row (push f) entries height section → (bit : ℕ) → bit < 6 → Here rela row bit × (height < depth) × Fit entries height
-pushing {entries = entries} {height = height} judged bit h = (
-  record { whole = judged.whole.whole; whole_row = judged.whole.whole_row; is_value = h },
-  rw length-tops at (ltb-false depth (suc (length (tops entries height))) (checked judged).room),
-  judged.fit,
-)
-
--- An operation: it passes.
-pub operating : {setting : Setting} {rela row : List ℕ} {o : Operation} {entries : List ℤ} {height : ℕ} {section : List ℕ} →
-    Judged setting rela row (operation o) entries height section → Passes o entries height
-unfolding operation_stack
-operating {o = o} {entries = entries} {height = height} judged =
-    let st = tops entries height in
-    let p = checked judged in
-    record {
-      fit = judged.fit;
-      passes =
-          S.not_refused o st (ltb-false (length st) (takes o) p.enough) (ltb-false depth (length (operation_stack o st)) p.room)
-          ∙ refuses-nothing 64 o (entry st 0) p.count p.not_zero;
-    }
-
--- A direct type leaves the stack, and writes what it writes with none.
-pub direct : (c : M.Setting) (r : Record) (d : Semantics) {entries : List ℤ} {height : ℕ} {section s : List ℕ} → class d ≤ 2 → Fit entries height →
-    s ≡ effect c r d [] section → Writes c r d entries height section entries height s
-direct c r unnamed h fit e = record { stack = record { is = refl; fit = fit }; bytes = e }
-direct c r idle h fit e = record { stack = record { is = refl; fit = fit }; bytes = e }
-direct c r loaders h fit e = record { stack = record { is = refl; fit = fit }; bytes = e }
-direct c r (push f) h fit e = absurd (omega arith)
-direct c r (operation o) h fit e = absurd (omega arith)
-direct c r (word stack parts range) h fit e = absurd (omega arith)
-direct c r (word (of f) parts range) h fit e = record { stack = record { is = refl; fit = fit }; bytes = e }
-direct c r (bytes way n f) h fit e = record { stack = record { is = refl; fit = fit }; bytes = e }
+        write = p.inside;
+        take = rw length-tops at (ltb-false (length (tops entries height)) (taken d) p.enough);
+        push = λ f is. rw length-tops at (pushing rela d (tops entries height) p f is);
+        operate = operating rela d (tops entries height) p;
+      },
+    )

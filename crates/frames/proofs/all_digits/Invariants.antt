@@ -1,10 +1,7 @@
--- `frames::all_digits` ends, and what its loop keeps.
-use Rattle.std.proofs.Common.{◌≡◌, ◌-◌, ◌≤◌, ◌&&◌, length, drop}
+-- What the loop of `frames::all_digits` keeps.
+use Rattle.std.proofs.Common.{◌≡◌, ◌&&◌, drop}
 use Rattle.meaning.specs.Frames.{all_digits}
 use Rattle.frames.proofs.all_digits.Given as goal
 
-abbrev pub invariant-loop-i : goal.invariant-loop-i
-invariant-loop-i l = (l.i ≤ length l.piece) × (all_digits l.piece ≡ (l.all && all_digits (drop l.i l.piece)))
-
-abbrev pub decreases-loop-i : goal.decreases-loop-i
-decreases-loop-i l = length l.piece - l.i
+abbrev pub invariant-loop-b : goal.invariant-loop-b
+invariant-loop-b l = all_digits l.piece ≡ (l.all && all_digits (drop l.b-index l.piece))

@@ -1,13 +1,12 @@
--- `output::put_section` ends, and what its loop keeps.
-use Rattle.std.proofs.Common.{◌≡◌, ◌+◌, ◌-◌, ◌≤◌, length, drop}
+-- What the loop of `output::put_section` keeps: with the lines of what is left, the output is what it was with all.
+use Rattle.std.proofs.Common.{◌≡◌, ◌+◌, length}
+use Rattle.std.specs.Slice.Iter.{chunks_rest, chunks_size}
 use Rattle.meaning.specs.Frames.{section_lines}
 use Rattle.frames.specs.Text.{laid}
 use Rattle.output.proofs.put_section.Given as goal
 
-abbrev pub invariant-loop-from : goal.invariant-loop-from
-invariant-loop-from l =
-    (l.from ≤ length l.section) × (length l.out ≡ length l.fn.out) × (l.to + length (section_lines (drop l.from l.section)) ≡ l.at + length (section_lines l.section))
-    × (laid l.at (section_lines l.section) l.fn.out ≡ laid l.to (section_lines (drop l.from l.section)) l.out)
-
-abbrev pub decreases-loop-from : goal.decreases-loop-from
-decreases-loop-from l = length l.section - l.from
+abbrev pub invariant-loop-piece : goal.invariant-loop-piece
+invariant-loop-piece l =
+    (goal.iterator-loop-piece).can_next l.piece-iterator × (goal.iterator-loop-piece).is_finite l.piece-iterator × (chunks_size l.piece-iterator ≡ 64)
+    × (length l.out ≡ length l.fn.out) × (l.to + length (section_lines (chunks_rest l.piece-iterator)) ≡ l.at + length (section_lines l.section))
+    × (laid l.to (section_lines (chunks_rest l.piece-iterator)) l.out ≡ laid l.at (section_lines l.section) l.fn.out)

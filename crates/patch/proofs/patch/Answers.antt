@@ -1,40 +1,21 @@
-use Rattle.std.proofs.Common.{refl, sym}
-use Rattle.patch.proofs.Whole.{Input, limits_refuse, limits_pass, masks_refuse, masks_pass, records_refuse, records_accepted}
+use Rattle.std.proofs.Common.{refl}
+use Rattle.patch.proofs.Whole.{lengths_refuse, few_values, few_records, masks_refuse, records_refuse, accepted}
 use Rattle.patch.proofs.patch.Goals as goal
 
-pub returns-then-refuses : goal.returns-then-refuses
-returns-then-refuses c =
-    let i : Input = record { section = c.args.section.now; records = c.args.records.now; values = c.args.values.now; address = c.args.address; gp = c.args.gp } in
-    limits_refuse i _ c.limits-limited.ensures (sym c.if-refuses.ensures)
+pub returns-in_err-check_lengths : goal.returns-in_err-check_lengths
+returns-in_err-check_lengths c = lengths_refuse _ _ _ _ _ _ _ c.in_err-check_lengths.ensures c.from_residual.ensures.1
 
-pub masks-masked-requires : goal.masks-masked-requires
-masks-masked-requires c =
-    let i : Input = record { section = c.args.section.now; records = c.args.records.now; values = c.args.values.now; address = c.args.address; gp = c.args.gp } in
-    (limits_pass i _ c.limits-limited.ensures (sym c.if-refuses.ensures)).few_values
+pub check_masks-requires : goal.check_masks-requires
+check_masks-requires c = few_values _ _ _ c.in_ok-check_lengths.ensures
 
-pub returns-then-refuses-2 : goal.returns-then-refuses-2
-returns-then-refuses-2 c =
-    let i : Input = record { section = c.args.section.now; records = c.args.records.now; values = c.args.values.now; address = c.args.address; gp = c.args.gp } in
-    masks_refuse i (limits_pass i _ c.limits-limited.ensures (sym c.if-refuses.ensures)) _ c.masks-masked.ensures (sym c.if-refuses-2.ensures)
+pub returns-in_err-check_masks : goal.returns-in_err-check_masks
+returns-in_err-check_masks c = masks_refuse _ _ _ _ _ c.in_ok-check_lengths.ensures _ _ c.in_err-check_masks.ensures c.from_residual-in_err-check_masks.ensures.1
 
-pub judge-judged-requires : goal.judge-judged-requires
-judge-judged-requires c =
-    let i : Input = record { section = c.args.section.now; records = c.args.records.now; values = c.args.values.now; address = c.args.address; gp = c.args.gp } in
-    ((limits_pass i _ c.limits-limited.ensures (sym c.if-refuses.ensures)).few_records, c.fixed_rows-fixed.ensures, refl)
+pub judge-requires : goal.judge-requires
+judge-requires c = (few_records _ _ _ c.in_ok-check_lengths.ensures _ c.as_chunks.ensures.front_len, refl)
 
-pub returns-then-refuses-3 : goal.returns-then-refuses-3
-returns-then-refuses-3 c =
-    let i : Input = record { section = c.args.section.now; records = c.args.records.now; values = c.args.values.now; address = c.args.address; gp = c.args.gp } in
-    let l = limits_pass i _ c.limits-limited.ensures (sym c.if-refuses.ensures) in
-    records_refuse i (masks_pass i l _ c.masks-masked.ensures (sym c.if-refuses-2.ensures)) _ c.judge-judged.ensures (sym c.if-refuses-3.ensures)
-
-pub write_all-requires-clause-lent : goal.write_all-requires-clause-lent
-write_all-requires-clause-lent c =
-    let i : Input = record { section = c.args.section.now; records = c.args.records.now; values = c.args.values.now; address = c.args.address; gp = c.args.gp } in
-    ((limits_pass i _ c.limits-limited.ensures (sym c.if-refuses.ensures)).few_records, c.fixed_rows-fixed.ensures, refl)
+pub returns-in_err-count : goal.returns-in_err-count
+returns-in_err-count c = records_refuse _ _ _ _ _ c.in_ok-check_lengths.ensures c.in_ok-check_masks.ensures _ c.as_chunks.ensures.front _ _ c.in_err-count.ensures c.from_residual-in_err-count.ensures.1
 
 pub returns : goal.returns
-returns c =
-    let i : Input = record { section = c.args.section.now; records = c.args.records.now; values = c.args.values.now; address = c.args.address; gp = c.args.gp } in
-    let l = limits_pass i _ c.limits-limited.ensures (sym c.if-refuses.ensures) in
-    records_accepted i (masks_pass i l _ c.masks-masked.ensures (sym c.if-refuses-2.ensures)) _ c.judge-judged.ensures (sym c.if-refuses-3.ensures) _ c.write_all.ensures
+returns c = accepted _ _ _ _ _ c.in_ok-check_lengths.ensures c.in_ok-check_masks.ensures _ c.as_chunks.ensures.front _ _ c.in_ok-count.ensures c.write_all.ensures

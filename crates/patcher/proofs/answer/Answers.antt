@@ -1,18 +1,25 @@
-use Rattle.patcher.proofs.Laws.{refused_output, patched_output, whole_output}
+use Rattle.std.proofs.Common.{arith}
+use Rattle.patcher.proofs.Laws.{refused_output, patched_output, output_fits, whole_output}
 use Rattle.patcher.proofs.answer.Goals as goal
 
-pub returns-then-got-ne0-clause-output : goal.returns-then-got-ne0-clause-output
-returns-then-got-ne0-clause-output c =
-    refused_output c.read-got.result _ _ _ c.args.input.now c.read-got.ensures.reading c.write.result _ _ c.if-got-ne0.true _ c.write.ensures.out_after c.write.ensures.value
+pub returns-in-Ok-clause-fits : goal.returns-in-Ok-clause-fits
+returns-in-Ok-clause-fits c = let f = output_fits _ _ _ _ c.patch_and_write.ensures in omega arith
 
-pub returns-then-got-ne0-clause-longer : goal.returns-then-got-ne0-clause-longer
-returns-then-got-ne0-clause-longer c =
-    whole_output _ _ _ _ (refused_output c.read-got.result _ _ _ c.args.input.now c.read-got.ensures.reading c.write.result _ _ c.if-got-ne0.true _ c.write.ensures.out_after c.write.ensures.value)
+pub returns-in-Ok-clause-output : goal.returns-in-Ok-clause-output
+returns-in-Ok-clause-output c = patched_output _ _ _ c.args.input.now _ _ _ c.in-Ok.got c.in-Ok.ensures.reading c.patch_and_write.ensures
 
-pub returns-clause-output : goal.returns-clause-output
-returns-clause-output c =
-    patched_output c.read-got.result _ _ _ c.args.input.now c.read-got.ensures.reading c.patch_and_write.result _ _ c.if-got-ne0.false c.patch_and_write.ensures
+pub returns-in-Ok-clause-longer : goal.returns-in-Ok-clause-longer
+returns-in-Ok-clause-longer c = whole_output _ _ _ _ (patched_output _ _ _ c.args.input.now _ _ _ c.in-Ok.got c.in-Ok.ensures.reading c.patch_and_write.ensures)
 
-pub returns-clause-longer : goal.returns-clause-longer
-returns-clause-longer c =
-    whole_output _ _ _ _ (patched_output c.read-got.result _ _ _ c.args.input.now c.read-got.ensures.reading c.patch_and_write.result _ _ c.if-got-ne0.false c.patch_and_write.ensures)
+pub returns-in-Err-clause-fits : goal.returns-in-Err-clause-fits
+returns-in-Err-clause-fits c =
+    let f = output_fits _ _ _ _ (refused_output _ _ _ c.args.input.now _ _ _ c.in-Err.fault c.in-Err.ensures.reading _ c.from.ensures _ c.write.ensures.out_after c.write.ensures.value) in
+    omega arith
+
+pub returns-in-Err-clause-output : goal.returns-in-Err-clause-output
+returns-in-Err-clause-output c =
+    refused_output _ _ _ c.args.input.now _ _ _ c.in-Err.fault c.in-Err.ensures.reading _ c.from.ensures _ c.write.ensures.out_after c.write.ensures.value
+
+pub returns-in-Err-clause-longer : goal.returns-in-Err-clause-longer
+returns-in-Err-clause-longer c =
+    whole_output _ _ _ _ (refused_output _ _ _ c.args.input.now _ _ _ c.in-Err.fault c.in-Err.ensures.reading _ c.from.ensures _ c.write.ensures.out_after c.write.ensures.value)

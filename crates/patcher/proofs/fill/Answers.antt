@@ -9,5 +9,5 @@ loop-n-preserved g c =
     let l = c.loop-n.invariant in
     record {
       within = search rules;
-      taken = subst (Consumes _ _) (sym (read_more c.loop-n.n c.in-Ok.more _ c.loop-n.buffer c.read.new.buf l.within c.in-Ok.ensures.bound.0)) (Consumes-trans _ _ _ _ _ l.taken c.in-Ok.ensures.bytes.0);
+      taken = subst (Consumes _ _) (sym (read_more c.loop-n.n c.in_ok-more.more _ c.loop-n.buffer c.read.new.buf l.within c.in_ok-more.ensures.bound.0)) (Consumes-trans _ _ _ _ _ l.taken c.in_ok-more.ensures.bytes.0);
     }
