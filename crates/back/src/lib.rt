@@ -74,7 +74,7 @@ pub fn read_back(section: &[u8], address: u64, offset: u64, rtype: u64) -> Resul
     if numbers::outside(section.len() as u64, offset, 4) {
         return Err(Refusal::Outside);
     }
-    if numbers::plus(address, offset) % 4 != 0 {
+    if !numbers::multiple_of_4(numbers::plus(address, offset)) {
         return Err(Refusal::Unaligned);
     }
     let word = bytes_le::get(&section[offset as usize..], 4);

@@ -1,6 +1,7 @@
 // Bytes as numbers, little-endian: what a part of a slice holds, and storing a number's low bytes into one.
-// Where n is known as the code is compiled, a part of 1, 2, 4 or 8 bytes is one load or one store. It stands beside the part since what
-// comes after the first n bytes is promised to stay.
+// Where n is known as the code is compiled, a part of 1, 2, 4 or 8 bytes is one load or one store. n, at most eight, stands beside the part
+// since what comes after the first n bytes is promised to stay; it is a literal or a type's own width at each call, and a type for it would
+// be made of that there.
 
 #![tactic(auto)]
 

@@ -4,6 +4,7 @@
 
 ghost use Rattle.std.specs.Prelude.{◌≡◌, ◌^◌, ◌≤◌, ◌<◌, take, drop, length};
 ghost use Rattle.meaning.specs.Executor as E;
+ghost use Rattle.meaning.specs.Field.{slice};
 ghost use Rattle.executor.specs.Runs.{outcome_of, carried_out, Runs};
 
 use refusals::{Refusal, Refused};
@@ -27,30 +28,37 @@ struct Step<'a> {
 }
 
 impl Step<'_> {
-    // ---- the parts of the word
+    // ---- the parts of the word, by their names in the manual
+
+    fn part(self, many: u32, at: u32) -> u64
+        requires { (many ≤ 32) × (at < 32) }
+        ensures { (result ≡ slice at many self.entry.word) × (result < 2 ^ many) }
+    {
+        fields::extract(u64::from(self.word), many, at)
+    }
 
     fn i20(self) -> u64
         ensures { (result ≡ E.i20 self.entry.word) × (result < 2 ^ 20) }
     {
-        fields::extract(self.word as u64, 20, 5)
+        self.part(20, 5)
     }
 
     fn i12(self) -> u64
         ensures { (result ≡ E.i12 self.entry.word) × (result < 2 ^ 12) }
     {
-        fields::extract(self.word as u64, 12, 10)
+        self.part(12, 10)
     }
 
     fn rj(self) -> usize
         ensures { (result ≡ E.rj self.entry.word) × (result < 32) }
     {
-        fields::extract(self.word as u64, 5, 5) as usize
+        self.part(5, 5) as usize
     }
 
     fn rd(self) -> usize
         ensures { (result ≡ E.rd self.entry.word) × (result < 32) }
     {
-        fields::extract(self.word as u64, 5, 0) as usize
+        self.part(5, 0) as usize
     }
 
     // What rj holds.

@@ -15,7 +15,7 @@ use lib.Dec.{eqb, ltb}
 use lib.ListN.{length, take, drop, get_or, set, length-append, length-drop, length-set, take-append-drop, drop_of_length-le}
 use Rattle.std.proofs.lemmas.List.{get_or-take, get_or-drop}
 use Rattle.std.specs.Int.{w64, from_be_bytes}
-use lib.Seq.{drop-cons, take-suc-set, drop-set-lt, length-take-le, take_at, drop_at, drop-drop}
+use lib.Seq.{drop-cons, take-suc-set, drop-set-lt, length-take-le, take_all, take_at, drop_at, drop-drop}
 use Rattle.meaning.specs.Frames.{lines_of, onto, digit, all_digits, numeral, bytes_in, kind, sized, follows, well_formed}
 use Rattle.std.specs.Prelude.{Ok, Err}
 use Rattle.refusals.specs.declared.Refusal.{Refusal}
@@ -73,14 +73,15 @@ first-line (b ∷ s) h = go (eqb b 10) s (first-line s)
 
 -- ---- its digits
 
-module _ (l : List ℕ) (i : ℕ) where
-  pub digits_next : i < length l → all_digits (drop i l) ≡ (ltb (digit (get_or l i 0)) 16 && all_digits (drop (i + 1) l))
-  unfolding all_digits
-  digits_next h = rw (add-one, drop-cons l i 0 h)
+pub no_more : all_digits [] ≡ true
+unfolding all_digits
+no_more = refl
 
-  pub digits_end : length l ≤ i → all_digits (drop i l) ≡ true
-  unfolding all_digits
-  digits_end h = rw (drop_of_length-le l {i = i} h)
+-- a byte more
+pub digits_more : (l : List ℕ) (b : ℕ) → all_digits (l ++ (b ∷ [])) ≡ all_digits l && ltb (digit b) 16
+unfolding all_digits
+digits_more [] b = grind (arith, nat_tests)
+digits_more (a ∷ l) b = let r = digits_more l b in grind (arith, nat_tests)
 
 -- a piece of digits, and those after it
 pub digits-run : (n : ℕ) (l : List ℕ) → n ≤ length l → all_digits (take n l) ≡ true → digits_length l ≡ n + digits_length (drop n l)
@@ -319,6 +320,15 @@ module _ (at : ℕ) (s : List ℕ) where
         rw (← append_assoc (take at s) w (drop (at + length w) s))
         (drop_at (take at s ++ w) (drop (at + length w) s) (at + length w) (simp (length-append, length-take-le at s (omega arith))))
 
+-- laid into the front of what stands from a place on
+pub laid_after : (at : ℕ) (w s part : List ℕ) → part ≡ laid 0 w (take (length s - at) (drop at s)) → put_mid at (length s - at) s part ≡ laid at w s
+unfolding laid
+laid_after at w s part e =
+    let d : length (drop at s) ≡ length s - at = length-drop at s in
+    let all : take (length s - at) (drop at s) ≡ drop at s = take_all (length s - at) (drop at s) (omega arith) in
+    let none : drop (length s - at) (drop at s) ≡ [] = drop_of_length-le (drop at s) {i = length s - at} (omega arith) in
+    rw (none, e, all, zero-add, append-nil, drop-drop (length w) at s) refl
+
 pub laid-append : (at : ℕ) (v w s : List ℕ) → at + length v ≤ length s → laid at (v ++ w) s ≡ laid (at + length v) w (laid at v s)
 laid-append at [] w s h = rw (add-zero, laid_none)
 laid-append at (b ∷ v) w s h =
@@ -336,11 +346,6 @@ module _ (at from : ℕ) (l s : List ℕ) where
 
   pub laid_done : length l ≤ from + 1 → laid at (bytes_in (drop from l)) s ≡ s
   laid_done h = rw (bytes_end from l (omega arith)) (laid_none at s)
-
--- the same where the digits that are left begin at twice the place
-pub laid_pair : (k : ℕ) (l s : List ℕ) (b : ℕ) → 2 * k + 1 < length l → k < length s → b ≡ 16 * digit (get_or l (2 * k) 0) + digit (get_or l (2 * k + 1) 0) →
-    laid (k + 1) (bytes_in (drop (2 * (k + 1)) l)) (set s k b) ≡ laid k (bytes_in (drop (2 * k) l)) s
-laid_pair k l s b h j e = let n : 2 * (k + 1) ≡ 2 * k + 2 = omega arith in rw n (laid_next k (2 * k) l s b h j e)
 
 pub laid_whole : (w s : List ℕ) → length w ≡ length s → laid 0 w s ≡ w
 unfolding laid
@@ -365,11 +370,14 @@ digits-taken zero l e = refl
 digits-taken (suc n) [] e = refl
 digits-taken (suc n) (b ∷ l) e = let r = digits-taken n l in grind (arith, nat_tests)
 
-pub digits_part : (at n : ℕ) (l : List ℕ) → all_digits l ≡ true → all_digits (take n (drop at l)) ≡ true
+pub digits_left : (at : ℕ) (l : List ℕ) → all_digits l ≡ true → all_digits (drop at l) ≡ true
 unfolding all_digits
-digits_part zero n l e = digits-taken n l e
-digits_part (suc at) n [] e = digits-taken n [] refl
-digits_part (suc at) n (b ∷ l) e = digits_part at n l (grind (arith, nat_tests))
+digits_left zero l e = e
+digits_left (suc at) [] e = refl
+digits_left (suc at) (b ∷ l) e = digits_left at l (grind (arith, nat_tests))
+
+pub digits_part : (at n : ℕ) (l : List ℕ) → all_digits l ≡ true → all_digits (take n (drop at l)) ≡ true
+digits_part at n l e = digits-taken n (drop at l) (digits_left at l e)
 
 -- the i-th of the first k pieces of n
 pub piece_is : {X : Type 0} (n k i : ℕ) (l : List X) (d : List X) → i < k → get_or (first_chunks n k l) i d ≡ take n (drop (n * i) l)
@@ -406,31 +414,20 @@ module _ (l : List ℕ) (pieces : List (List ℕ)) (cut : pieces ≡ first_chunk
         let parts : bytes_in (drop (16 * i) l) ≡ w ++ bytes_in (drop (16 * i + 16) l) = rw (bytes, piece, ← drop-drop 16 (16 * i) l) (bytes_split 8 (drop (16 * i) l) some) in
         rw k (sym (ap (λ (x : List ℕ). laid at x s) parts ∙ laid-append at w (bytes_in (drop (16 * i + 16) l)) s (omega arith) ∙ rw (part_laid, eight_long)))
 
--- the pairs that are left after the whole pieces
-abbrev pub whole : List ℕ → ℕ
-whole l = 16 * (length l / 16)
-
-module _ (l left : List ℕ) (rest : left ≡ drop (length l / 16 * 16) l) (pairs : List (List ℕ)) (cut : pairs ≡ first_chunks 2 (length left / 2) left)
-    (j : ℕ) (here : j < length left / 2) where
-  inside : whole l + 2 * j + 1 < length l
-  inside = let n : length left ≡ length l - length l / 16 * 16 = rw rest (length-drop (length l / 16 * 16) l) in omega arith
-
-  of_pair : (k : ℕ) → k < 2 → get_or (get_or pairs j []) k 0 ≡ get_or l (whole l + 2 * j + k) 0
-  of_pair k less =
-      let e : length l / 16 * 16 ≡ whole l = omega arith in
-      rw (cut, piece_is 2 (length left / 2) j left [] here, get_or-take 2 (drop (2 * j) left) k 0 less, get_or-drop (2 * j) left k 0, rest, e, get_or-drop (whole l) l (2 * j + k) 0, add_assoc (whole l) (2 * j) k)
+-- a pair of digits, and its byte laid
+module _ (l : List ℕ) (pairs : List (List ℕ)) (cut : pairs ≡ first_chunks 2 (length l / 2) l) (j : ℕ) (here : j < length l / 2) where
+  of_pair : (k : ℕ) → k < 2 → get_or (get_or pairs j []) k 0 ≡ get_or l (2 * j + k) 0
+  of_pair k less = rw (cut, piece_is 2 (length l / 2) j l [] here, get_or-take 2 (drop (2 * j) l) k 0 less, get_or-drop (2 * j) l k 0)
 
   pub pair_digits : all_digits l ≡ true → (digit (get_or (get_or pairs j []) 0 0) < 16) × (digit (get_or (get_or pairs j []) 1 0) < 16)
-  pair_digits e =
-      let h = inside in
-      (rw (of_pair 0 (omega arith)) (digits_at l (whole l + 2 * j + 0) e (omega arith)), rw (of_pair 1 (omega arith)) (digits_at l (whole l + 2 * j + 1) e (omega arith)))
+  pair_digits e = (rw (of_pair 0 (omega arith)) (digits_at l (2 * j + 0) e (omega arith)), rw (of_pair 1 (omega arith)) (digits_at l (2 * j + 1) e (omega arith)))
 
-  pub laid_left : (at b : ℕ) (s : List ℕ) → at < length s → b ≡ 16 * digit (get_or (get_or pairs j []) 0 0) + digit (get_or (get_or pairs j []) 1 0) →
-      laid (at + 1) (bytes_in (drop (whole l + 2 * (j + 1)) l)) (set s at b) ≡ laid at (bytes_in (drop (whole l + 2 * j) l)) s
-  laid_left at b s fits e =
-      let n : whole l + 2 * (j + 1) ≡ whole l + 2 * j + 2 = omega arith in
-      let m : whole l + 2 * j + 0 ≡ whole l + 2 * j = omega arith in
-      rw n (laid_next at (whole l + 2 * j) l s b inside fits (e ∙ rw (of_pair 0 (omega arith), of_pair 1 (omega arith), m)))
+  pub laid_pair : (at b : ℕ) (s : List ℕ) → at < length s → b ≡ 16 * digit (get_or (get_or pairs j []) 0 0) + digit (get_or (get_or pairs j []) 1 0) →
+      laid (at + 1) (bytes_in (drop (2 * (j + 1)) l)) (set s at b) ≡ laid at (bytes_in (drop (2 * j) l)) s
+  laid_pair at b s fits e =
+      let n : 2 * (j + 1) ≡ 2 * j + 2 = omega arith in
+      let m : 2 * j + 0 ≡ 2 * j = omega arith in
+      rw n (laid_next at (2 * j) l s b (omega arith) fits (e ∙ rw (of_pair 0 (omega arith), of_pair 1 (omega arith), m)))
 
 -- ---- eight bytes as a number, the highest first
 
@@ -458,4 +455,4 @@ number_of l h = eight_worth (bytes_in l) (rw (length_bytes, h) refl) ∙ sym (nu
 -- ---- what the functions' goals ask, by function
 
 -- `eight`
-pub ruleset eight_bytes = (digits_at, laid_whole, length_bytes, laid_pair, laid_done)
+pub ruleset eight_bytes = (laid_whole, length_bytes, laid_done)

@@ -29,15 +29,10 @@ fn is_digit(b: u8) -> bool
 }
 
 // Whether sixteen bytes are digits. No test waits for another, so that the compiler can make them on all bytes at once.
-#[tactic(auto, using(crate::proofs::Laws::digits_next, crate::proofs::Laws::digits_end))]
 fn all_digits(piece: &[u8; 16]) -> bool
     ensures { result ≡ F.all_digits piece.now }
 {
-    let mut all = true;
-    for b in piece {
-        all &= is_digit(*b);
-    }
-    all
+    piece.iter().fold(true, |all, b| all & is_digit(*b))
 }
 
 // How many whole pieces of sixteen bytes are digits before the first that is not.
@@ -107,9 +102,10 @@ fn eight(digits: &[u8; 16]) -> [u8; 8]
     requires { F.all_digits digits.now ≡ true }
     ensures { result ≡ F.bytes_in digits.now }
 {
+    let (pairs, _) = digits.as_chunks::<2>();
     let mut bytes = [0; 8];
-    for i in 0..8 {
-        bytes[i] = byte(digits[2 * i], digits[2 * i + 1]);
+    for (i, pair) in pairs.iter().enumerate() {
+        bytes[i] = byte(pair[0], pair[1]);
     }
     bytes
 }
@@ -122,26 +118,21 @@ fn number(digits: &[u8; 16]) -> u64
     u64::from_be_bytes(eight(digits))
 }
 
-// Lays the bytes of digits into a buffer, from `used` on, and answers how many are used with them. Where the next one goes is counted along:
-// by `enumerate` the program takes 6 % more instructions on frames of one byte, and so 12 % more than it did with index loops.
-fn append(buffer: &mut [u8], used: usize, digits: &[u8]) -> usize
+// Lays the bytes of digits into the front of a buffer.
+fn lay(buffer: &mut [u8], digits: &[u8])
     requires all_digits { F.all_digits digits.now ≡ true }
-    requires room { used + length digits.now / 2 ≤ length buffer.old }
-    ensures bytes { buffer.new ≡ laid used (F.bytes_in digits.now) buffer.old }
-    ensures count { result ≡ used + length digits.now / 2 }
+    requires room { length digits.now / 2 ≤ length buffer.old }
+    ensures { buffer.new ≡ laid 0 (F.bytes_in digits.now) buffer.old }
 {
     let (pieces, left) = digits.as_chunks::<16>();
-    let mut end = used;
-    for piece in pieces {
-        buffer[end..end + 8].copy_from_slice(&eight(piece));
-        end += 8;
+    for (i, piece) in pieces.iter().enumerate() {
+        buffer[8 * i..8 * i + 8].copy_from_slice(&eight(piece));
     }
+    let whole = 8 * pieces.len();
     let (pairs, _) = left.as_chunks::<2>();
-    for pair in pairs {
-        buffer[end] = byte(pair[0], pair[1]);
-        end += 1;
+    for (i, pair) in pairs.iter().enumerate() {
+        buffer[whole + i] = byte(pair[0], pair[1]);
     }
-    end
 }
 
 // ---- a frame
@@ -233,6 +224,8 @@ impl<'a> Frame<'a> {
 }
 
 // What was read: the two numbers, and how many bytes each buffer holds.
+// The counts stand beside the buffers, and are no slices: `Filled` in the clauses of `read`, and the laws `same-section`, `same-values` and
+// `same_records`, speak of every byte that was lent, past the counts too.
 #[derive(Clone, Copy, Debug, Default, PartialEq, Eq)]
 pub struct Gathered {
     pub address: u64,
@@ -250,7 +243,7 @@ pub struct Fault {
 }
 
 impl Gathered {
-    // The place of the buffer that a frame takes past its limit, which only its own can be.
+    // The place of the frame's buffer (0 section, 1 records, 2 values) where the frame takes it past its limit.
     fn over(self, frame: Frame) -> Option<u32>
         requires { Within self.section self.values self.records }
         ensures { let n = length frame.entry.digits.now / 2 in let k = kind_number frame.entry.kind in
@@ -276,7 +269,7 @@ impl Gathered {
 }
 
 // Gathers a frame: its two numbers, or its bytes, laid into the one buffer that its kind names.
-#[tactic(auto, using(crate::proofs::Laws::laid_none), unfolding(meaning::specs::Frames::sized))]
+#[tactic(auto, using(crate::proofs::Laws::laid_none, crate::proofs::Laws::laid_after), unfolding(meaning::specs::Frames::sized))]
 fn gather(
     got: Gathered,
     frame: Frame,
@@ -292,6 +285,7 @@ fn gather(
     ensures values_after { values.new ≡ laid got.values (own (kind_number frame.entry.kind) 3 frame.entry.digits.now) values.old }
     ensures records_after { records.new ≡ laid got.records (own (kind_number frame.entry.kind) 4 frame.entry.digits.now) records.old }
 {
+    let n = frame.digits.len() / 2;
     match frame.kind {
         Kind::Numbers => {
             let (numbers, _) = frame.digits.as_chunks::<16>();
@@ -301,22 +295,32 @@ fn gather(
                 ..got
             }
         }
-        Kind::Section => Gathered {
-            section: append(section, got.section, frame.digits),
-            ..got
-        },
-        Kind::Row => Gathered {
-            values: append(values, got.values, frame.digits),
-            ..got
-        },
-        Kind::Record => Gathered {
-            records: append(records, got.records, frame.digits),
-            ..got
-        },
+        Kind::Section => {
+            lay(&mut section[got.section..], frame.digits);
+            Gathered {
+                section: got.section + n,
+                ..got
+            }
+        }
+        Kind::Row => {
+            lay(&mut values[got.values..], frame.digits);
+            Gathered {
+                values: got.values + n,
+                ..got
+            }
+        }
+        Kind::Record => {
+            lay(&mut records[got.records..], frame.digits);
+            Gathered {
+                records: got.records + n,
+                ..got
+            }
+        }
     }
 }
 
 // Reads all frames into the three buffers, line by line up to the first fault. The bytes past those counted stay as they came.
+// The buffers are three parameters, since those clauses and laws name each, whole, as it was lent.
 pub fn read(
     input: &[u8],
     section: &mut [u8],
@@ -333,6 +337,7 @@ pub fn read(
 {
     let mut got = Gathered::default();
     let mut last = None;
+    // counted along: where a line ends is known only as it is read, and an iterator of lines would say the whole loop over again in its `next`
     let mut lines: u32 = 0;
     let mut left = input;
     while !left.is_empty() {

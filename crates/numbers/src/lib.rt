@@ -115,7 +115,7 @@ pub fn outside(size: u64, offset: u64, n: u32) -> bool
     requires { 1 ≤ n }
     ensures { result ≡ C.outside size offset n }
 {
-    let Some(end) = offset.checked_add(n as u64) else {
+    let Some(end) = offset.checked_add(u64::from(n)) else {
         return true;
     };
     size < end

@@ -2,7 +2,9 @@
 use Rattle.std.proofs.Common.{◌≡◌, ℕ, ◌+◌, ◌≤◌, List, ◌++◌, length, take, drop, length-append, sym, ap, ◌∙◌, subst, arith}
 use Rattle.std.proofs.lemmas.List.{length-take-le, take-append-le, take_at}
 use Rattle.std.proofs.Math.Seq.{take-append-add}
-use Rattle.std.specs.Prelude.{Option, Some, None, Ok, Err}
+use Rattle.std.specs.Prelude.{Option, Some, None, Result, Ok, Err}
+use Rattle.std.specs.Result.{OnOk, is_ok}
+use mathlib.Core.Bool.{false≢true}
 use Rattle.std.specs.Io.KnownBytes.{Appends}
 use borrow.Author.Tests.{ne_eqb}
 use borrow.Rule.Slice.PartMut.{put_mid, post_of}
@@ -60,3 +62,10 @@ answered None before after n r buffer came is e taken output written = tt
 answered (Some left) before after n r buffer came is e taken output written =
     let o = output left (sym (taken ∙ ap (λ (k : ℕ). take k left) e)) in
     subst (Appends before after) (ap (take r) o.bytes ∙ take_at (output_of left) (drop r came) r (sym o.count)) written
+
+-- what a call that succeeds gives, with the error as another
+pub error_as : {T E F P Q : Type 0} (was : Result T E) (is : Result T F) → is_ok is ≡ is_ok was → (P → Q) → OnOk was P → OnOk is Q
+error_as (Ok x) (Ok y) e f p = f p
+error_as (Ok x) (Err b) e f p = tt
+error_as (Err a) (Ok y) e f p = absurd (false≢true (sym e))
+error_as (Err a) (Err b) e f p = tt

@@ -34,6 +34,7 @@ fn fill<R: Read>(reader: &mut R, buffer: &mut [u8]) -> io::Result<usize>
 }
 
 // Patches, and writes the answer with the section after it.
+// The buffers and the two numbers come one by one, as `patch::patch` takes them, whose parameters may not change.
 fn patch_and_write(
     section: &mut [u8],
     records: &[u8],
@@ -131,8 +132,7 @@ fn run<R: Read, W: Write>(
     let r = answer(&input[..n], buffers);
     writer
         .write_all(&buffers.out[..r])
-        .map_err(|_| Failure::Writing)?;
-    Ok(())
+        .map_err(|_| Failure::Writing)
 }
 
 fn main(rt: HostRuntime) {

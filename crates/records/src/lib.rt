@@ -3,12 +3,12 @@
 
 #![tactic(auto)]
 
-ghost use Rattle.std.specs.Prelude.{◌≡◌, ◌<◌};
+ghost use Rattle.std.specs.Prelude.{◌≡◌, ◌<◌, []};
 ghost use Rattle.meaning.specs.Numbers as N;
 ghost use Rattle.meaning.specs.Call as M;
 ghost use Rattle.meaning.specs.Call.{card64, rows_of, row_of};
 ghost use Rattle.table.specs.Columns.{sum_from, formula_from};
-ghost use Rattle.records.specs.Given.{setting_in, record_in};
+ghost use Rattle.records.specs.Given.{as_setting, seen, setting_in, record_in};
 
 use sizes::{RECORD, ROW};
 use table::{Formula, Sum};
@@ -38,10 +38,29 @@ fn number(bytes: &[u8; RECORD], k: usize) -> u64
     bytes_le::get(&bytes[8 * k..], 8)
 }
 
-fn symbol(bytes: &[u8; RECORD]) -> u64
+pub fn offset(bytes: &[u8; RECORD]) -> u64
+    ensures { result ≡ M.offset_in card64 bytes.now }
+{
+    number(bytes, 0)
+}
+
+pub fn rtype(bytes: &[u8; RECORD]) -> u64
+    ensures { result ≡ M.type_in card64 bytes.now }
+{
+    number(bytes, 1) % (1 << 32)
+}
+
+pub fn symbol(bytes: &[u8; RECORD]) -> u64
     ensures { result ≡ M.symbol_in card64 bytes.now }
 {
-    number(bytes, 1) / 4294967296
+    number(bytes, 1) >> 32
+}
+
+/// PC is section address plus offset.
+pub fn pc(bytes: &[u8; RECORD], setting: &Setting) -> u64
+    ensures { result ≡ M.PC (as_setting setting.now) (seen bytes.now []) }
+{
+    numbers::plus(setting.address, offset(bytes))
 }
 
 impl<'a> Record<'a> {
@@ -62,13 +81,13 @@ impl<'a> Record<'a> {
     pub fn offset(self) -> u64
         ensures { result ≡ M.offset_in card64 self.entry.bytes.now }
     {
-        number(self.bytes, 0)
+        offset(self.bytes)
     }
 
     pub fn rtype(self) -> u64
         ensures { result ≡ M.type_in card64 self.entry.bytes.now }
     {
-        number(self.bytes, 1) % 4294967296
+        rtype(self.bytes)
     }
 
     pub fn symbol(self) -> u64
@@ -83,11 +102,10 @@ impl<'a> Record<'a> {
         number(self.bytes, 2)
     }
 
-    /// PC is section address plus offset.
     pub fn pc(self) -> u64
         ensures { result ≡ M.PC (setting_in self.entry) (record_in self.entry) }
     {
-        numbers::plus(self.setting.address, self.offset())
+        pc(self.bytes, self.setting)
     }
 
     // A value alone, with the addend, or with GP.

@@ -1,5 +1,6 @@
 // The face for C programs: numbers and buffers in, a number, a place and an offset or a value out. The crate rofteluvi_c exports it, and
-// include/rofteluvi.h declares it. Its answers have a number and no `Refusal`, because the header's structs do.
+// include/rofteluvi.h declares it. Its answers have a number and no `Refusal`, and its functions their parameters one by one, because the
+// header has them so; `patch`, `back` and `executor` take them as they come from there.
 
 #![tactic(auto)]
 
@@ -118,7 +119,7 @@ pub fn rofteluvi_read_back(
 ) -> RofteluviImmediate
     ensures { ReadsBack section.now address offset rtype result }
 {
-    back::read_back(section, address, offset, rtype as u64).into()
+    back::read_back(section, address, offset, u64::from(rtype)).into()
 }
 
 // The registers are the caller's, and what they hold is the run's result.

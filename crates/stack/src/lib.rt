@@ -1,5 +1,6 @@
 // The stack of signed numbers: its depth, taking and pushing an entry, and the operations by the psABI's names, judged and carried out.
-// A `Stack` is the number of its entries. The entries lie in an array that the caller keeps, the top one at height - 1.
+// A `Stack` is the number of its entries. The entries lie in an array that the caller keeps, the top one at height - 1: the array beside the
+// stack, and not in it, is document 01's form.
 
 #![tactic(auto)]
 
@@ -65,7 +66,7 @@ impl Stack {
         Some(Stack { height: height + 1 })
     }
 
-    // ---- carried out, where nothing is refused
+    // ---- carried out, where nothing is refused: a function for each operation of the psABI but the pairs, since they differ in what they do
 
     /// The entry k below the top.
     pub fn entry(self, entries: &[i64; Stack::DEPTH], k: usize) -> i64
@@ -137,13 +138,14 @@ impl Stack {
     pub fn put(self, entries: &mut [i64; Stack::DEPTH], z: i64) -> Result<Stack, Refusal>
         ensures { Judges (cond (ltb depth (suc self.height)) 11 0) (z ∷ tops entries.old self.height) entries.new result }
     {
+        // by `ok_or` a record of the stack mix takes three instructions more
         let Some(above) = self.push(entries, z) else {
             return Err(Refusal::StackFull);
         };
         Ok(above)
     }
 
-    /// What dup takes it leaves.
+    /// Refusal 10 on an empty stack, 11 on a full one: what dup takes it leaves.
     pub fn dup(self, entries: &mut [i64; Stack::DEPTH]) -> Result<Stack, Refusal>
         ensures { JudgesOperation T.dup entries.old self.height entries.new result }
     {

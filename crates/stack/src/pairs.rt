@@ -5,7 +5,7 @@ ghost use Rattle.meaning.specs.Stack as M;
 ghost use Rattle.meaning.specs.Checks.{not_count, refuses};
 ghost use Rattle.stack.specs.Pairs.{pair_of};
 
-/// The operations with two operands.
+/// The operations with two operands. A case each and no closure, since the contracts say by its name what an operation does.
 #[derive(Clone, Copy, Debug, PartialEq, Eq)]
 pub enum Pair {
     Sub,

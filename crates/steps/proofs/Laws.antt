@@ -1,4 +1,4 @@
--- Judging with the stack, the sides of a range, and which types the default arms are left with. Assumes nothing.
+-- Judging with the stack, the sides of a range, and the types that `others` is left with. Assumes nothing.
 use Rattle.std.proofs.Common.{◌≡◌, ◌≢◌, ℕ, zero, suc, ◌≤◌, ◌<◌, ◌⊎◌, Bool, true, false, ◌||◌, cond, ltb, ℤ, pos, negsuc, neg_ℤ, List, [], ◌∷◌, length, drop, Result, Some, SFits, w64, refl, sym, ap, ◌∙◌, le-ltb, arith}
 use mathlib.Core.Bool.{false≢true}
 use lib.Dec.{leb-suc-zero}
@@ -13,7 +13,7 @@ use Rattle.refusals.specs.Numbers.{refusal_in}
 use Rattle.refusals.specs.declared.Refusal.{Refusal}
 use Rattle.numbers.specs.Laws.{signed_bits}
 use Rattle.table.specs.Keys as K
-use Rattle.table.specs.Keys.{class, lower, highest, same_keys, from_up, in_range, out_of_range}
+use Rattle.table.specs.Keys.{class, same_keys, from_up, in_range, out_of_range}
 use Rattle.stack.specs.declared.Stack.{Stack}
 use Rattle.stack.specs.Tops.{tops, Fit, Stands, taken_at}
 use Rattle.stack.specs.Laws.{length-tops, taken_empty, taken-value, some_there}
@@ -48,15 +48,14 @@ module _ (r : Record) (s : List ℤ) (h : ℕ) where
   }
 
   -- a word's value z taken, and tested as the 64 bits x
-  pub pop_steps : (range : Accepted) (z : ℤ) (k x : ℕ) (j : Result Stack Refusal) → Fit s h → place_refusal (setting_in r) (record_in r) ≡ 0
-      → taken_at s h ≡ Some (z, k) → SFits w64 z → x ≡ bits_of 64 z → refusal_in j ≡ range_refusal range (signed 64 x) → Stands (tops s k) s j
+  pub pop_steps : (range : Accepted) (z : ℤ) (k : ℕ) (j : Result Stack Refusal) → Fit s h → place_refusal (setting_in r) (record_in r) ≡ 0
+      → taken_at s h ≡ Some (z, k) → refusal_in j ≡ range_refusal range z → Stands (tops s k) s j
       → Steps (setting_in r) (record_in r) (word stack [] range) s h s j
-  pop_steps range z k x j fit placed taken small bits says leaves =
+  pop_steps range z k j fit placed taken says leaves =
       let there = some_there s h taken in
-      let value : signed 64 x ≡ entry (tops s h) 0 = ap (signed 64) bits ∙ signed_bits z small ∙ sym there.1 in
       let below : drop 1 (tops s h) ≡ tops s k = ap (drop 1) (taken-value s h taken).0 in
       record {
-        says = says ∙ rw value (sym (rw (length-tops, placed, le-ltb h 1 (omega arith)) at (refusal_pop (setting_in r) (record_in r) (tops s h) (short s h fit) [] range)));
+        says = says ∙ rw (sym there.1) (sym (rw (length-tops, placed, le-ltb h 1 (omega arith)) at (refusal_pop (setting_in r) (record_in r) (tops s h) (short s h fit) [] range)));
         leaves = rw below leaves;
       }
 
@@ -77,7 +76,7 @@ sides (suc least) most (pos a) m e = by (ltb most a) e
     by false e = absurd (false≢true e)
 sides least most (negsuc a) m e = rw e
 
--- ---- the types by their numbers: one that no arm of a match names is of a lower class, or not named
+-- ---- the types of no class, by their numbers: one that no arm names is not named
 
 pub loaders_own : (t : ℕ) → 3 ≤ t → t ≤ 12 → semantics t ≡ loaders
 unfolding table look from_up
@@ -90,20 +89,3 @@ not_named t theirs none marks tables relax low =
     (((((tt, out_of_range 3 10 t theirs), none), out_of_range 20 2 t marks), out_of_range 57 2 t tables), relax) low
 
 pub ruleset unclassed = (loaders_own, not_named)
-
-pub not_bytes : (t : ℕ) → (t < 1) ⊎ (2 < t) → (t < 47) ⊎ (56 < t) → t ≢ 99 → class (semantics t) ≤ 1 → class (semantics t) ≤ 0
-unfolding every table from_up
-not_bytes t words sums pcrel low =
-    lower 0 (from_up 1 2 ∷ from_up 47 10 ∷ (99 ∷ []) ∷ []) t tt (((tt, out_of_range 1 2 t words), out_of_range 47 10 t sums), pcrel) low
-
-pub not_word : (t : ℕ) → (t < 64) ⊎ (98 < t) → class (semantics t) ≤ 2 → class (semantics t) ≤ 1
-unfolding every table from_up
-not_word t out low = lower 1 (from_up 64 35 ∷ []) t tt (tt, out_of_range 64 35 t out) low
-
-pub not_pop : (t : ℕ) → (t < 38) ⊎ (46 < t) → class (semantics t) ≤ 3 → class (semantics t) ≤ 2
-unfolding every table from_up
-not_pop t out low = lower 2 (from_up 38 9 ∷ []) t tt (tt, out_of_range 38 9 t out) low
-
-pub not_push : (t : ℕ) → (t < 22) ⊎ (37 < t) → class (semantics t) ≤ 3
-unfolding every table from_up
-not_push t out = lower 3 (from_up 22 16 ∷ []) t tt (tt, out_of_range 22 16 t out) (highest t)

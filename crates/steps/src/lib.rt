@@ -1,7 +1,8 @@
 // One record of the list judged: its checks in their order, and the stack after it. Each match has the types of one class and hands on to
 // the next by its default arm, and each arm reads like its lines of Table 10. Neighbouring types stand in different arms: of an arm of
 // neighbours the compiler makes a test of a range, and not a jump. A type is its number, in all of these matches, and no enum: document 01
-// speaks of types by their numbers, every number has an answer, and an enum of 89 cases would say each number a second time.
+// speaks of types by their numbers, every number has an answer, and an enum of 89 cases would say each number a second time. It is handed on
+// beside the record, out of which it is read once: what a match asks, the class of its types, is said of it.
 
 #![tactic(auto)]
 
@@ -59,7 +60,7 @@ fn place(rela: Record<'_>) -> Result<(), Refusal>
     ensures { refusal_in result ≡ place_refusal (setting_in rela.entry) (record_in rela.entry) }
 {
     let beside = outside(rela, 4);
-    let unaligned = rela.pc() % 4 != 0;
+    let unaligned = !numbers::multiple_of_4(rela.pc());
     if beside {
         return Err(Refusal::Outside);
     }
@@ -70,10 +71,9 @@ fn place(rela: Record<'_>) -> Result<(), Refusal>
 }
 
 // Whether a value is in its accepted range.
-fn in_range(range: Range, x: u64) -> bool
-    ensures { result ≡ B.not (beyond (range_from range) (signed 64 x)) }
+fn in_range(range: Range, z: i64) -> bool
+    ensures { result ≡ B.not (beyond (range_from range) z) }
 {
-    let z = numbers::signed(x);
     match range.sign {
         Sign::Unsigned => numbers::in_unsigned(range.bits, z),
         Sign::Signed | Sign::MultipleOf4 => numbers::in_signed(range.bits, z),
@@ -81,17 +81,17 @@ fn in_range(range: Range, x: u64) -> bool
 }
 
 // Whether it is no multiple of 4 where its range asks for one.
-fn no_multiple(range: Range, x: u64) -> bool
-    ensures { result ≡ C.not_multiple (range_from range) (signed 64 x) }
+fn no_multiple(range: Range, z: i64) -> bool
+    ensures { result ≡ C.not_multiple (range_from range) z }
 {
-    range.sign == Sign::MultipleOf4 && !numbers::multiple_of_4(x)
+    range.sign == Sign::MultipleOf4 && !numbers::multiple_of_4(numbers::bits(z))
 }
 
 // Which way a value misses its range. Every range has 0 in it, so that below is where the negative ones miss.
-fn missed(x: u64) -> Refusal
-    ensures { number_of result ≡ B.cond (lt_z (signed 64 x) (pos 0)) 18 14 }
+fn missed(z: i64) -> Refusal
+    ensures { number_of result ≡ B.cond (lt_z z (pos 0)) 18 14 }
 {
-    if numbers::signed(x) < 0 {
+    if z < 0 {
         Refusal::BelowRange
     } else {
         Refusal::AboveRange
@@ -99,13 +99,13 @@ fn missed(x: u64) -> Refusal
 }
 
 // Refusals 14, 18 and 15, of a value.
-fn ranged(x: u64, range: Range) -> Result<(), Refusal>
-    ensures { refusal_in result ≡ range_refusal (range_from range) (signed 64 x) }
+fn ranged(z: i64, range: Range) -> Result<(), Refusal>
+    ensures { refusal_in result ≡ range_refusal (range_from range) z }
 {
-    let beyond = !in_range(range, x);
-    let odd = no_multiple(range, x);
+    let beyond = !in_range(range, z);
+    let odd = no_multiple(range, z);
     if beyond {
-        return Err(missed(x));
+        return Err(missed(z));
     }
     if odd {
         return Err(Refusal::NotMultiple);
@@ -134,7 +134,7 @@ fn checked(looked: Looked<'_>, formula: Formula, range: Range) -> Result<(), Ref
 {
     present(looked, formula.sum().value())?;
     place(looked.rela)?;
-    ranged(looked.rela.formula(formula), range)
+    ranged(numbers::signed(looked.rela.formula(formula)), range)
 }
 
 // So many bytes of data.
@@ -166,7 +166,7 @@ fn others(rtype: u64) -> Result<(), Refusal>
 }
 
 // 1, 2, 47 to 56, 99: bytes of data.
-#[tactic(auto, using(crate::proofs::Laws::not_bytes), unfolding(meaning::specs::Checks::first, meaning::specs::Table::table, meaning::specs::Table::look))]
+#[tactic(auto, unfolding(meaning::specs::Checks::first, meaning::specs::Table::table, meaning::specs::Table::look))]
 fn data(rtype: u64, looked: Looked<'_>) -> Result<(), Refusal>
     requires { class (semantics rtype) ≤ 1 }
     ensures { refusal_in result ≡ refusal_of (setting_in looked.entry.rela) (record_in looked.entry.rela) (semantics rtype) [] }
@@ -177,12 +177,13 @@ fn data(rtype: u64, looked: Looked<'_>) -> Result<(), Refusal>
         49 | 54 => bytes(looked, S, 3),
         1 | 50 | 55 | 99 => bytes(looked, S, 4),
         2 | 51 | 56 => bytes(looked, S, 8),
+        #[tactic(auto, using(table::specs::Keys::classed))]
         _ => others(rtype),
     }
 }
 
 // 64 to 98: words whose value is a formula's.
-#[tactic(auto, using(crate::proofs::Laws::not_word), unfolding(meaning::specs::Checks::first, meaning::specs::Table::table, meaning::specs::Table::look))]
+#[tactic(auto, unfolding(meaning::specs::Checks::first, meaning::specs::Table::table, meaning::specs::Table::look))]
 fn words(rtype: u64, looked: Looked<'_>) -> Result<(), Refusal>
     requires { class (semantics rtype) ≤ 2 }
     ensures { refusal_in result ≡ refusal_of (setting_in looked.entry.rela) (record_in looked.entry.rela) (semantics rtype) [] }
@@ -200,6 +201,7 @@ fn words(rtype: u64, looked: Looked<'_>) -> Result<(), Refusal>
         87 | 89 | 91 | 93 | 96 | 98 => word(looked, Ie),
         88 | 90 | 92 | 94 => word(looked, Ie),
         95 | 97 => word(looked, Gd),
+        #[tactic(auto, using(table::specs::Keys::classed))]
         _ => data(rtype, looked),
     }
 }
@@ -220,7 +222,7 @@ fn pop(
     let Some((z, below)) = stack.take(entries) else {
         return Err(Refusal::StackEmpty);
     };
-    ranged(numbers::bits(z), range)?;
+    ranged(z, range)?;
     Ok(below)
 }
 
@@ -240,7 +242,7 @@ fn push(
 }
 
 // 38 to 46: words whose value is taken from the stack.
-#[tactic(auto, using(crate::proofs::Laws::not_pop), unfolding(meaning::specs::Table::table, meaning::specs::Table::look))]
+#[tactic(auto, unfolding(meaning::specs::Table::table, meaning::specs::Table::look))]
 fn pops(
     rtype: u64,
     looked: Looked<'_>,
@@ -261,6 +263,7 @@ fn pops(
         44 => pop(rela, entries, stack, SIGNED23_BY4),
         45 => pop(rela, entries, stack, SIGNED28_BY4),
         46 => pop(rela, entries, stack, UNSIGNED32),
+        #[tactic(auto, using(table::specs::Keys::classed))]
         _ => {
             words(rtype, looked)?;
             Ok(stack)
@@ -269,7 +272,7 @@ fn pops(
 }
 
 // One record's step: 22 to 37, pushes and operations, and the others by their classes.
-#[tactic(auto, using(crate::proofs::Laws::not_push), unfolding(meaning::specs::Checks::first, meaning::specs::Table::table, meaning::specs::Table::look, stack::specs::Tops::operation_stack, stack::specs::Tops::operation_refusal))]
+#[tactic(auto, unfolding(meaning::specs::Checks::first, meaning::specs::Table::table, meaning::specs::Table::look, stack::specs::Tops::operation_stack, stack::specs::Tops::operation_refusal))]
 pub fn step(
     rela: Record<'_>,
     entries: &mut [i64; Stack::DEPTH],
@@ -297,6 +300,7 @@ pub fn step(
         35 => stack.pair(Pair::Add, entries),
         36 => stack.pair(Pair::And, entries),
         37 => stack.if_else(entries),
+        #[tactic(auto, using(table::specs::Keys::classed))]
         _ => pops(rtype, looked, entries, stack),
     }
 }

@@ -1,5 +1,5 @@
 -- What links an arm of a match on the type to the lines of the meaning's table: its keys, or for the default arm the keys of the others.
-use Rattle.std.specs.Prelude.{ℕ, zero, suc, ◌+◌, ◌≤◌, ◌<◌, Bool, true, false, not, ◌||◌, List, [], ◌∷◌, map, ◌⊎◌, ◌≡◌, refl, T, eqb, leb}
+use Rattle.std.specs.Prelude.{ℕ, zero, suc, ◌+◌, ◌≤◌, ◌<◌, Bool, true, false, not, cond, ◌||◌, List, [], ◌∷◌, map, ◌⊎◌, ◌≡◌, refl, T, eqb, leb, ltb}
 use Rattle.std.proofs.Common.{zero-le, eq-or-lt_of_le, arith, inl, inr, ⊎_elim, sym, leb→le}
 use Rattle.std.proofs.Math.Path.{subst⁻¹}
 use mir.Val.{has_key}
@@ -67,6 +67,18 @@ class (operation o) = 4
 pub highest : (t : ℕ) → class (semantics t) ≤ 4
 unfolding every table
 highest t = found (λ d. class d ≤ 4) (λ k d. leb (class d) 4) table t tt (λ d h. leb→le (class d) 4 h) zero-le
+
+-- The class of each type that has one, by its number: 0 below 1, 1 below 3, and so on.
+abbrev pub class_at : ℕ → ℕ
+class_at t =
+    cond (ltb t 1) 0 (cond (ltb t 3) 1 (cond (ltb t 22) 0 (cond (ltb t 38) 4 (cond (ltb t 47) 3
+    (cond (ltb t 57) 1 (cond (ltb t 64) 0 (cond (ltb t 99) 2 (cond (ltb t 100) 1 0))))))))
+
+pub classed : (t : ℕ) → (class (semantics t) ≤ 0) ⊎ (class (semantics t) ≡ class_at t)
+unfolding every table
+classed t =
+    found (λ d. (class d ≤ 0) ⊎ (class d ≡ class_at t)) (λ k d. eqb (class d) 0 || eqb (class d) (class_at k)) table t tt
+    (λ d h. grind arith) (inl (omega arith))
 
 -- t is no key of any arm, in the form in which a match tells it.
 abbrev pub NoKey : Type 0 → List (List ℕ) → ℕ → Type 0

@@ -1,4 +1,4 @@
-// The columns of Table 10, by the psABI's names: what an arm of the code hands on for its types. Nothing is computed here.
+// The columns of Table 10, by the psABI's names: what an arm of the code hands on for its types.
 
 #![tactic(auto)]
 

@@ -41,7 +41,7 @@ fn mask(row: &[u8; ROW]) -> u64
     bytes_le::get(row, 8)
 }
 
-// Refusal 7 where a value is absent from the row, or 6 where the symbol has no row, which has nothing present.
+// Refusal 6 where the symbol has no row, or 7 where its row lacks the value. A row that is none has nothing present: one test serves both.
 #[tactic(auto, using(crate::proofs::Laws::none_present))]
 pub fn check_value(row: &[u8; ROW], value: Value, rows: u64, symbol: u64) -> Result<(), Refusal>
     requires { rows < symbol → row.now ≡ no_row }

@@ -1,7 +1,7 @@
--- What the writers leave; which class a type is of, by its number, and what each class leaves alone; and what a record may do that no check refuses.
-use Rattle.std.proofs.Common.{◌≡◌, ℕ, suc, ◌*◌, ◌≤◌, ◌<◌, ◌⊎◌, Bool, false, cond, ◌&&◌, ◌||◌, ℤ, List, [], length, eqb, ltb, leb, refl, sym, ap, ◌∙◌, subst, inl, arith, ltb-false}
+-- What the writers leave; what each class leaves alone; and what a record may do that no check refuses.
+use Rattle.std.proofs.Common.{◌≡◌, ℕ, suc, ◌*◌, ◌≤◌, ◌<◌, false, ℤ, List, [], length, ltb, refl, sym, ap, ◌∙◌, subst, arith, ltb-false}
 use Rattle.meaning.specs.Numbers.{bytes_of, plus, minus}
-use Rattle.meaning.specs.Table.{Semantics, push, operation, Formula, Operation, table, semantics}
+use Rattle.meaning.specs.Table.{Semantics, push, operation, Formula, Operation}
 use Rattle.meaning.specs.Call as M
 use Rattle.meaning.specs.Call.{card64, offset_in}
 use Rattle.meaning.specs.Stack.{depth, entry, takes, taken, after}
@@ -11,7 +11,6 @@ use Rattle.lemmas.specs.Operations.{refuses-nothing}
 use Rattle.lemmas.specs.Passed as P
 use Rattle.lemmas.specs.Passed.{Passed, refusal_of}
 use Rattle.lemmas.specs.Modulo.{bytes_minus}
-use Rattle.lemmas.specs.Look.{every, found}
 use Rattle.table.specs.Keys.{class}
 use Rattle.records.specs.declared.Record.{Record}
 use Rattle.records.specs.Given.{setting_in, record_in}
@@ -26,23 +25,6 @@ bytes_less n x old z few e =
     sym (bytes_minus n old x few) ∙ ap (bytes_of n) turned
 
 -- ---- the types of a match
-
--- The class of each type that has one, by its number.
-abbrev between : ℕ → ℕ → ℕ → Bool
-between low high t = leb low t && leb t high
-
-abbrev class_at : ℕ → ℕ
-class_at t =
-    cond (between 22 37 t) 4
-    (cond (between 38 46 t) 3
-    (cond (between 64 98 t) 2
-    (cond (between 1 2 t || between 47 56 t || eqb t 99) 1 0)))
-
-pub classed : (t : ℕ) → (class (semantics t) ≤ 0) ⊎ (class (semantics t) ≡ class_at t)
-unfolding every table
-classed t =
-    found (λ d. (class d ≤ 0) ⊎ (class d ≡ class_at t)) (λ k d. eqb (class d) 0 || eqb (class d) (class_at k)) table t tt
-    (λ d h. grind arith) (inl (omega arith))
 
 -- A type of no class leaves the section.
 pub nothing : (c : M.Setting) (r : M.Record) (d : Semantics) (section : List ℕ) → class d ≤ 0 → effect c r d [] section ≡ section

@@ -1,7 +1,8 @@
 // The writing of a record that was judged before: a field's parts into a word, or bytes stored, added to or subtracted from, at the place
 // that the section lends, and the stack after it. The checks are not made again. Each match has the types of one class and hands on to
 // the next by its default arm, and each arm is its lines of Table 10: what is put, and where. A type is its number in these matches, and no
-// enum, as in `steps`. That n bytes at the place are inside the section is a clause and no type: n is each arm's own.
+// enum, and is handed on beside the record, as in `steps`. The section stands beside the record because it is lent to be written, and a
+// record is copied. That n bytes at the place are inside the section is a clause and no type: n is each arm's own.
 
 #![tactic(auto)]
 
@@ -52,7 +53,8 @@ fn add_to(part: &mut [u8], x: u64)
     bytes_le::put(part, n, numbers::plus(x, old));
 }
 
-// ---- at a record's place
+// ---- at a record's place. Each lends the part itself: a function that handed it back would promise how the section ends, and a closure that
+// is lent it what it writes, in place of what is written here.
 
 fn field<const N: usize>(section: &mut [u8], rela: Record<'_>, x: u64, parts: [Part; N])
     requires { offset_in card64 rela.bytes.now + 4 ≤ length section.old }
@@ -168,6 +170,7 @@ fn words(rtype: u64, section: &mut [u8], rela: Record<'_>)
         93 => word(section, rela, Whole(GP_PLUS_IE), [LO20_64]),
         94 => word(section, rela, Whole(GP_PLUS_IE), [HI12_64]),
         95 | 97 => word(section, rela, Pages(GP_PLUS_GD), [HI20]),
+        #[tactic(auto, using(table::specs::Keys::classed))]
         _ => data(rtype, section, rela),
     }
 }
@@ -230,6 +233,7 @@ fn pops(
         44 => pop(section, rela, entries, stack, [HI5, MID16]),
         45 => pop(section, rela, entries, stack, [HI10, MID16]),
         46 => pop(section, rela, entries, stack, [WORD]),
+        #[tactic(auto, using(table::specs::Keys::classed, crate::proofs::Laws::not_refused))]
         _ => {
             words(rtype, section, rela);
             stack
@@ -266,6 +270,7 @@ pub fn write(
         35 => stack.combine(Pair::Add, entries),
         36 => stack.combine(Pair::And, entries),
         37 => stack.choose(entries),
+        #[tactic(auto, using(table::specs::Keys::classed))]
         _ => pops(rtype, section, rela, entries, stack),
     }
 }

@@ -8,5 +8,5 @@ use Rattle.output.proofs.put_section.Given as goal
 abbrev pub invariant-loop-piece : goal.invariant-loop-piece
 invariant-loop-piece l =
     (goal.iterator-loop-piece).can_next l.piece-iterator × (goal.iterator-loop-piece).is_finite l.piece-iterator × (chunks_size l.piece-iterator ≡ 64)
-    × (length l.out ≡ length l.fn.out) × (l.to + length (section_lines (chunks_rest l.piece-iterator)) ≡ l.at + length (section_lines l.section))
-    × (laid l.to (section_lines (chunks_rest l.piece-iterator)) l.out ≡ laid l.at (section_lines l.section) l.fn.out)
+    × (length l.out ≡ length l.fn.out) × (l.end + length (section_lines (chunks_rest l.piece-iterator)) ≡ length (section_lines l.section))
+    × (laid l.end (section_lines (chunks_rest l.piece-iterator)) l.out ≡ laid 0 (section_lines l.section) l.fn.out)

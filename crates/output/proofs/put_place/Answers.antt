@@ -1,0 +1,8 @@
+-- `output::put_place` meets its contract: the place, the offset after it, and the line feed.
+use Rattle.std.proofs.Common.{rules}
+use Rattle.frames.proofs.Laws.{laid_after}
+use Rattle.output.proofs.Writer.{pieces}
+use Rattle.output.proofs.put_place.Goals as goal
+
+pub returns-clause-out_after : goal.returns-clause-out_after
+returns-clause-out_after c = rw (laid_after _ _ _ _ c.put_bytes-2.ensures) (search (pieces, rules))
