@@ -1,5 +1,5 @@
 -- The loops over the records: what holds before each, and what a turn makes of it.
-use Rattle.std.proofs.Common.{ℕ, zero, suc, ◌+◌, ◌/◌, ◌<◌, ◌≤◌, arith, List, [], ◌∷◌, ◌≡◌, refl, sym, subst, ap, ◌∙◌, Bool, cond, not, ℤ, eqb, eq-eqb, ne_eqb, add-one, length, map, drop, drop-cons, get_or, Result, Ok, Err}
+use Rattle.std.proofs.Common.{ℕ, zero, suc, ◌+◌, ◌/◌, ◌<◌, ◌≤◌, arith, List, [], ◌∷◌, ◌≡◌, refl, sym, subst, ap, ◌∙◌, Bool, true, false, cond, not, ℤ, eqb, eq-eqb, ne_eqb, add-one, length, map, drop, drop-cons, get_or, Result, Ok, Err}
 use Rattle.std.proofs.lemmas.List.{drop_all, length-map}
 use Rattle.std.proofs.lemmas.Result.{err_from_is_err_and}
 use Rattle.meaning.specs.Table.{Semantics}
@@ -88,12 +88,12 @@ module _ (setting : S.Setting) (values : List ℕ) (pieces : List (List ℕ)) wh
         goes_on : (entries' : List ℤ) (h' : ℕ) → refusal call.setting ≡ 0 → Holds (next call.setting) entries' h' → Going entries' h' (i + 1)
         goes_on entries' h' e t = record { answers = rw (add-one i, t.is) (rw (eq-eqb (refusal call.setting) 0 e) at here) }
 
-        -- judging: a refusal is the answer of all, and a record that passes leaves it to the next
-        pub stops : (st s : List ℤ) (j : Result Stack Refusal) (r : Refusal) (o : ℕ) → j ≡ Err r → o ≡ offset_in card64 rela.bytes.now →
-            Judges (refusal (setting_in rela)) st s j → answer_at (number_of r) i o ≡ records_answer call pieces
-        stops st s j r o e f judged =
+        -- judging: a refusal is the answer of all, at this record's place and with its offset; and a record that passes leaves it to the next
+        pub stops : (st s : List ℤ) (j : Result Stack Refusal) (r : Refusal) (place o : ℕ) → j ≡ Err r → place ≡ i → o ≡ offset_in card64 (get_or pieces i []) →
+            Judges (refusal (setting_in rela)) st s j → answer_at (number_of r) place o ≡ records_answer call pieces
+        stops st s j r place o e p f judged =
             let k = rw its at (rw e at judged) in
-            rw f (stops_here _ k.says (numbered r))
+            rw (p, f, ← bytes) (stops_here _ k.says (numbered r))
 
         pub goes : (s : List ℤ) (j : Result Stack Refusal) (stack : Stack) → j ≡ Ok stack →
             Judges (refusal (setting_in rela)) (next (setting_in rela)) s j → Going s stack.height (i + 1)
@@ -136,20 +136,41 @@ module _ (setting : S.Setting) (values : List ℕ) (pieces : List (List ℕ)) wh
         rw (e, drop_all (length pieces) pieces (omega arith), length-tops entries h) at going.answers
 
     -- the check of the entries left, as the code makes it
-    module _ (fails : Bool) (some_left : fails ≡ not (eqb h 0)) where
+    module _ (fails : Bool) where
       abbrev left : List Check
       left = check 16 (length pieces) fails ∷ []
 
-      pub ends_left : (f : Refused) (r : Result ℕ Fault) → Refuses left f → Returns r (without_record f) → Going entries h i → answer_in r ≡ records_answer call pieces
-      ends_left f r refuses out going =
-          let p = err_from_is_err_and r out in
-          rw (p.1, p.2) (sym (stopped left f refuses accepted) ∙ (rw (← some_left) at ends going))
+      failed : (f : Refused) → Refuses left f → fails ≡ true
+      unfolding first
+      failed f = by fails
+        where
+          by : (b : Bool) → Refuses (check 16 (length pieces) b ∷ []) f → b ≡ true
+          by true e = refl
+          by false e = absurd (numbered f.refusal (ap (λ (a : Answer). a.number) e))
 
-      pub ends_accepted : AllPass left → Going entries h i → answer 0 (length pieces) ≡ records_answer call pieces
-      ends_accepted e going =
+      held : AllPass left → fails ≡ false
+      unfolding first
+      held = by fails
+        where
+          by : (b : Bool) → AllPass (check 16 (length pieces) b ∷ []) → b ≡ false
+          by true e = let q : ◌≡◌ {A = ℕ} 0 16 = ap (λ (a : Answer). a.number) e in absurd (omega (arith, q))
+          by false e = refl
+
+      pub ends_left : (fails ≡ true → 1 ≤ h) → (f : Refused) (r : Result ℕ Fault) → Refuses left f → Returns r (without_record f) → Going entries h i → answer_in r ≡ records_answer call pieces
+      ends_left some_left f r refuses out going =
+          let p = err_from_is_err_and r out in
+          let e : fails ≡ true = failed f refuses in
+          let some : 1 ≤ h = some_left e in
+          let is : fails ≡ not (eqb h 0) = e ∙ sym (ap not (ne_eqb h 0 (λ z. omega (arith, z)))) in
+          rw (p.1, p.2) (sym (stopped left f refuses accepted) ∙ (rw (← is) at ends going))
+
+      pub ends_accepted : (fails ≡ false → h ≡ 0) → AllPass left → Going entries h i → answer 0 (length pieces) ≡ records_answer call pieces
+      ends_accepted none_left passes going =
+          let e : fails ≡ false = held passes in
+          let is : fails ≡ not (eqb h 0) = e ∙ sym (ap not (eq-eqb h 0 (none_left e))) in
           ap (answer 0) (sym (length-map pieces (record_of card64 values)))
-          ∙ sym (first_passed left accepted (passed left (omega arith) e))
-          ∙ (rw (← some_left) at ends going)
+          ∙ sym (first_passed left accepted (passed left (omega arith) passes))
+          ∙ (rw (← is) at ends going)
 
     pub all_written : (s₀ s : List ℕ) → Writing s₀ s entries h i → s ≡ patched call.setting [] s₀ (rest 0)
     unfolding patched

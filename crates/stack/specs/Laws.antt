@@ -1,5 +1,5 @@
 -- The stack as a list: how long it is, which entries it looks at, and what taking and pushing make of it. Assumes nothing.
-use Rattle.std.specs.Prelude.{◌≡◌, refl, ℕ, zero, suc, ◌+◌, ◌-◌, ◌≤◌, ◌<◌, Bool, true, false, cond, List, [], ◌∷◌, eqb, ltb, ℤ, pos, length, get_or, set, drop, Some, None, Result, Ok, Err}
+use Rattle.std.specs.Prelude.{◌≡◌, refl, ℕ, zero, suc, ◌+◌, ◌-◌, ◌≤◌, ◌<◌, Bool, true, false, cond, List, [], ◌∷◌, eqb, ltb, ℤ, pos, length, get_or, set, drop, Option, Some, None, Result, Ok, Err}
 use Rattle.std.proofs.Common.{sym, ap, ap₂, ◌∙◌, subst, add-one, arith, ltb-true, ltb-false, lt-ltb, le-ltb, ne_eqb, length-set, get_or-set_same, get_or-set_other}
 use Rattle.std.proofs.Math.Path.{subst⁻¹}
 use Rattle.std.proofs.Math.Nat.{sub-zero}
@@ -11,7 +11,7 @@ use Rattle.meaning.specs.Checks.{refuses}
 use Rattle.refusals.specs.Numbers.{number_of}
 use Rattle.refusals.specs.declared.Refusal.{Refusal}
 use Rattle.refusals.specs.declared.Refusal.TheVariants.{StackEmpty, StackFull}
-use Rattle.stack.specs.Tops.{taken_number, pushed_number, tops, Fit, Holds, Passes, taken_at, if_room, pushed_at, entries_at, operation_stack, operation_refusal, Judges, JudgesOperation, Operates}
+use Rattle.stack.specs.Tops.{taken_number, pushed_number, tops, Fit, Holds, Passes, taken_in, taken_at, pushed_in, if_room, pushed_at, entries_at, operation_stack, operation_refusal, Judges, JudgesOperation, Operates}
 use Rattle.stack.specs.Pairs.{pair_of}
 use Rattle.stack.specs.declared.Stack.{Stack}
 use Rattle.stack.specs.declared.pairs.Pair.{Pair}
@@ -73,6 +73,15 @@ pushed_numbered h = by (ltb h depth)
     by : (b : Bool) → pushed_number (if_room b h) ≡ cond b 0 11
     by true = refl
     by false = refl
+
+-- The same of the answers of the code, each of which tells its stack by the height.
+pub taken_answered : (s : List ℤ) (h : ℕ) (taken : Option (ℤ × Stack)) → taken_in taken ≡ taken_at s h → taken_number taken ≡ cond (eqb h 0) 10 0
+taken_answered s h (Some (z, below)) e = ap taken_number e ∙ taken_numbered s h
+taken_answered s h None e = ap taken_number e ∙ taken_numbered s h
+
+pub pushed_answered : (h : ℕ) (pushed : Option Stack) → pushed_in pushed ≡ pushed_at h → pushed_number pushed ≡ cond (ltb h depth) 0 11
+pushed_answered h (Some above) e = ap pushed_number e ∙ pushed_numbered h
+pushed_answered h None e = ap pushed_number e ∙ pushed_numbered h
 
 pub pushed_full : (h : ℕ) → pushed_at h ≡ None → depth ≤ h
 pushed_full h e = by (ltb h depth) refl e
